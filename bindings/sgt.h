@@ -472,6 +472,12 @@ uint32_t sgt_records(const sgt_engine *engine, uint64_t *count);
  */
 uint32_t sgt_live_tids(const sgt_engine *engine, uint32_t tids[32], uint64_t *count);
 
+/*
+ * The three limits, as an opening has them: how many transactions may be live at once, how many starts there may be until the history is cut,
+ * and when codes are reported: 0 at the step, 1 at the commit. SGT_CLOSED.
+ */
+uint32_t sgt_limits(const sgt_engine *engine, uint64_t limits[3]);
+
 /* How many entries the history has: one for each event since the engine was opened or last cut. SGT_CLOSED. */
 uint32_t sgt_entries(const sgt_engine *engine, uint64_t *count);
 
@@ -587,7 +593,8 @@ uint32_t sgt_fault_text(const sgt_fault *fault, char *text, size_t capacity, uin
 /*
  * Why an opening was refused, in one line for a person: where its first error is, what was expected there and what was found.
  * It is the second line of an error of `sgt script`. `opening` is what was passed to sgt_open, sgt_open_with or sgt_shared_open.
- * Of the opening with the procedure `[0,[7]]` it is `procedure 5, at 1 0: expected a statement, found 7`.
+ * Of the opening with the procedure `[0,[["put",256,1,1]]]` it is
+ * `procedure 5, at 1 0 1: expected a table from 0 to 7, found 256`.
  *
  * The text is written as by sgt_fault_text, and its length to `written`. The words are ASCII, and may change with the version.
  * The call reads the opening once more, and allocates memory meanwhile.
@@ -612,8 +619,8 @@ uint32_t sgt_explain_procedure(uint64_t number, const char *procedure, size_t le
  */
 #define SGT_VERSION_MAJOR 0
 #define SGT_VERSION_MINOR 3
-#define SGT_VERSION_PATCH 0
-#define SGT_VERSION "0.3.0"
+#define SGT_VERSION_PATCH 1
+#define SGT_VERSION "0.3.1"
 
 const char *sgt_version(void);
 const char *sgt_status_text(uint32_t status);

@@ -38,6 +38,9 @@ BUILD_SECONDS = 3600
 MONEY = "80000 calls, 4000 of 4000\n"
 LEFT = "4000 of 4000, 0 entries\n"
 
+# What is said of something else in place of a procedure.
+A_PROCEDURE = 'a procedure is a list in the list of procedures, as [[0,[["answer",7]]]]'
+
 
 def makes_the_library(_):
     run([BINDINGS / "build", *sys.argv[1:]], seconds=BUILD_SECONDS)
@@ -329,7 +332,7 @@ def gives_each_reply_and_fault_its_text(_):
         (
             {"limits": (8, 100), "procedures": [[0, []], 7]},
             "procedure 6 shape top",
-            "procedure 6, at top: expected [arguments,[statement,..]], found 7",
+            f"procedure 6, at top: expected [arguments,[statement,..]], found 7: {A_PROCEDURE}",
         ),
         (
             {"limits": (8, 100), "procedures": [[0, [["ask", 0]]]]},
@@ -357,14 +360,14 @@ def reports_why_nothing_is_added(_):
     sgt = module()
 
     procedures = [
-        ("nope", "not JSON", "column 1: not JSON from here", None),
-        ({}, "procedure 5 shape top", "procedure 5, at top: expected [arguments,[statement,..]], found {}", "{}"),
-        ([0, [7]], "procedure 5 shape 1 0", "procedure 5, at 1 0: expected a statement, found 7", "7"),
+        ("nope", "not JSON", "column 1: not JSON from here: a word stands in double quotes", None),
+        ({}, "procedure 5 shape top", f"procedure 5, at top: expected [arguments,[statement,..]], found {{}}: {A_PROCEDURE}", "{}"),
+        ([0, [7]], "procedure 5 shape 1 0", 'procedure 5, at 1 0: expected a statement, found 7: a statement is a list that starts with its word, as ["ask",7]', "7"),
         ([0, [["ask", 0]]], "procedure 5 flaw 8", "procedure 5, at 1 0 1: code 0 is not from 1 to 999", None),
         (
             [0, [["put", 7, ["argument", 0], 1]]],
             "procedure 5 shape 1 0 2",
-            'procedure 5, at 1 0 2: unknown word "argument"',
+            'procedure 5, at 1 0 2: unknown word "argument": an expression starts with arg, reg, sum, diff, product or quotient',
             '["argument", 0]',
         ),
     ]

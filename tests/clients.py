@@ -21,10 +21,11 @@ import xml.etree.ElementTree as ElementTree
 from concurrent.futures import ThreadPoolExecutor
 
 sys.dont_write_bytecode = True
+from helpers.anomalies import counted  # noqa: E402
 from helpers.appends import (  # noqa: E402
     COMMITTED, Transaction, all_small, drawn, entries_of, keeps_time, lines_of, precedences, serial_orders, shortest_cycle)
 from helpers.cases import SECONDS, TESTS, Differs, same, run_cases  # noqa: E402
-from helpers.levels import drawn_split, is_committed_run, is_read_committed, is_read_uncommitted, is_snapshot_isolated, is_snapshot_run, is_write_order, may_have_no_write_order, may_stay_open  # noqa: E402
+from helpers.levels import drawn_split, is_committed_run, is_ordered_isolated, is_read_committed, is_read_uncommitted, is_snapshot_isolated, is_snapshot_run, is_write_order, keeps, may_have_no_write_order, may_stay_open  # noqa: E402
 from pictures import Drawing  # noqa: E402
 
 CLIENTS = TESTS.parent / "examples" / "clients"
@@ -220,6 +221,7 @@ STATUS = {"yes": 0, "no": 1, "undecided": 3}
 def compare_levels(program, draw, history):
     """Each level's answer and evidence by the definitions, with real time or without; and the exit status of one level."""
     entries, spans = entries_of(draw, history)
+    entries, owners = in_sessions(draw, entries)
     given, options = lines_of(entries), ["--strict"] * (draw.random() < 0.3)
     level = draw.choice(LEVELS[:4] + LEVELS[4:] * len(options))
     try:
@@ -230,14 +232,35 @@ def compare_levels(program, draw, history):
         same("levels", LEVELS[:4 + len(options)], list(found))
         same("status", STATUS[found[level]], status)
         compare_answers(found, history, spans)
-        Evidence(history, spans, bool(options)).compare(reported["levels"])
+        evidence = Evidence(history, spans, bool(options))
+        evidence.compare(reported["levels"])
+        evidence.compare_orders(reported, owners)
+        evidence.compare_anomalies(reported["anomalies"], found["serializable"] == "yes")
         strongest = [it for it in found if found[it] == "yes"][-1:]
         same("strongest", (strongest or [None])[0], reported["strongest"])
         line = f"strongest level: {(strongest or ['none'])[0].replace('-', ' ')}"
-        same("report", True, line in check(program, given, *options)[1].splitlines())
+        lines = check(program, given, *options)[1].splitlines()
+        same("report", True, line in lines)
+        same("lines of anomalies", [f"anomaly {it['anomaly']}: {it['count']}, the first:" for it in reported["anomalies"]],
+             [it for it in lines if it.startswith("anomaly ")])
     except (Differs, ValueError, AttributeError, KeyError) as why:
         raise Differs(f"{why}\n{given}") from None
     return (strongest or ["none"])[0] if "undecided" not in found.values() else "undecided"
+
+
+def in_sessions(draw, entries):
+    """The entries, with processes that go on after an end; and the process of each transaction."""
+    running, free, owners, renamed = {}, [], [], []
+    for it in entries:
+        if it["type"] == "invoke":
+            process = free.pop() if free and draw.random() < 0.8 else f"c{len(owners)}"
+            running[it["process"]] = process
+            owners.append(process)
+        else:
+            process = running.pop(it["process"])
+            free.insert(draw.randrange(len(free) + 1), process)
+        renamed.append(it | {"process": process})
+    return renamed, owners
 
 
 def compare_answers(found, history, spans):
@@ -287,6 +310,38 @@ class Evidence(Reported):
         for it in ties:
             if not self.shows(it["from"] - 1, it["to"] - 1, it["why"]):
                 raise Differs(f"t{it['from']} before t{it['to']} does not follow from {it['why']!r}")
+
+    def compare_orders(self, reported, owners):
+        """Strong and session snapshot isolation, if real time is kept."""
+        names = ["strong-snapshot-isolation", "session-snapshot-isolation"]
+        same("orders", names if self.strict else [], [it for it in names if it in reported])
+        ended = [(one, other) for one, before in enumerate(self.history) for other in range(len(self.history))
+                 if before.status == COMMITTED and self.spans[one][1] < self.spans[other][0]]
+        sessions = [(one, other) for one, other in ended if owners[one] == owners[other]]
+        for name, before in zip(names, (ended, sessions)) if self.strict else ():
+            self.compare_order(name, reported[name], before)
+
+    def compare_order(self, name, found, before):
+        if found["holds"] == "undecided":
+            same(f"{name} may be undecided", True, may_stay_open(self.history))
+        else:
+            same(name, "yes" if is_ordered_isolated(self.history, before) else "no", found["holds"])
+        if "order" in found:
+            order = [it - 1 for it in found["order"]]
+            same(f"a run of {name}", (True, True), (is_snapshot_run(self.history, order, found["starts"]), keeps(before, order, found["starts"])))
+        if "cycle" in found:
+            timed = [(it["from"] - 1, it["to"] - 1) for it in found["cycle"] if it["because"] == "real time"]
+            same("steps of time", set(), set(timed) - set(before))
+            self.compare_ties("snapshot", found["cycle"])
+
+    def compare_anomalies(self, listed, is_serial):
+        same("anomalies", {} if is_serial else counted(self.history), {it["anomaly"]: it["count"] for it in listed})
+        for it in listed:
+            if "cycle" in it:
+                same("a lost update", ("lost-update", 2, {"wait"}), (it["anomaly"], len(it["cycle"]), {tie["because"] for tie in it["cycle"]}))
+                self.compare_ties("snapshot", it["cycle"])
+            else:
+                self.compare_read(it)
 
     def compare_unseen(self, found):
         """The read that would show the order of two appends that nobody saw."""
@@ -395,10 +450,18 @@ def names_the_strongest_level(program):
         place = lines.index(f"strongest level: {strongest}")
         same(f"after {strongest}", broken, (lines[place + 1:] or [None])[0])
     stale = in_turn([one("ok", (A, 1, 1)), one("ok", (R, 1, (1,))), one("ok", (R, 1, ()))])
-    same("stale read", "strongest level: serializable", check(program, stale, "--strict")[1].splitlines()[-1])
+    lines = check(program, stale, "--strict")[1].splitlines()
+    place = lines.index("strongest level: serializable")
+    same("stale read", ["strong snapshot isolation no: by the lines above", "session snapshot isolation yes"], lines[place + 1:])
+    skew = at_once(SKEW).replace('"process": ', '"process": 1')
+    for given, broken in ((skew + stale, ["not serializable: by the lines above"]), (stale + skew, ["not serializable: G2-item", *("  t",) * 2])):
+        lines = check(program, given, "--strict")[1].splitlines()
+        place = lines.index("strongest level: snapshot isolation")
+        wanted = [*broken, "strong snapshot isolation no:", *("  t",) * 2, "session snapshot isolation yes"]
+        same("stale read and write skew", wanted, ["  t" if it.startswith("  t") else it for it in lines[place + 1:]])
     fresh = in_turn([one("ok", (A, 1, 1)), one("ok", (R, 1, (1,)))])
-    same("strict", (0, "strongest level: strict serializable"),
-         (lambda ran: (ran[0], ran[1].splitlines()[-1]))(check(program, fresh, "--level", "strict-serializable")))
+    same("strict", (0, ["strongest level: strict serializable", "strong snapshot isolation yes", "session snapshot isolation yes"]),
+         (lambda ran: (ran[0], ran[1].splitlines()[-3:]))(check(program, fresh, "--level", "strict-serializable")))
     ran = subprocess.run([program, "check", "--level", "serializable"], input=b"", capture_output=True, timeout=SECONDS, check=False)
     same("without the model", (2, b"", True), (ran.returncode, ran.stdout, b"--model list-append" in ran.stderr))
 
@@ -477,6 +540,12 @@ def in_turn(history):
         entries.append({"type": "invoke", "process": process, "f": "txn", "value": it.operations})
         entries.append({"type": it.status, "process": process, "f": "txn", "value": it.operations})
     return lines_of(entries)
+
+
+def at_once(history):
+    """Each transaction begins before the first one ends."""
+    entries = [{"process": process, "f": "txn", "value": it.operations} for process, it in enumerate(history)]
+    return lines_of([it | {"type": "invoke"} for it in entries] + [it | {"type": one.status} for it, one in zip(entries, history)])
 
 
 def names_the_operations(program):
@@ -565,6 +634,19 @@ def reads_edn(program):
         same(f"{path.name} in EDN", check(program, path.read_bytes()), check(program, text))
 
 
+def notices_a_wrong_bracket_in_edn(program):
+    """One bracket that is missing or of another kind is an error, wherever it stands: no entry is lost."""
+    draw, others = random.Random(74), {"[": "{", "]": "}", "{": "[", "}": "]"}
+    for _ in range(100):
+        entries, _ = entries_of(draw, drawn(draw))
+        text = "".join(edn({**it, "error": [{"a": [1]}, []]}) + "\n" for it in entries)
+        at = draw.choice([at for at, byte in enumerate(text) if byte in others])
+        for other in ("", others[text[at]], text[at] * 2):
+            changed = text[:at] + other + text[at + 1 :]
+            status, report, _ = check(program, changed)
+            same(f"{changed!r}", (2, ""), (status, report))
+
+
 def takes_null_for_the_empty_list(program):
     """A write skew stays one if the reads saw null."""
     entries, _ = entries_of(random.Random(1), NAMED["G2-item"])
@@ -586,16 +668,37 @@ def takes_processes_of_any_name(program):
 
 
 def takes_keys_of_any_name(program):
-    """Numbers of 15 digits, and texts, which are strings or keywords in EDN: the same report, with these names."""
+    """Numbers of 15 digits with a sign, and texts, which are strings or keywords in EDN: the same report, with these names."""
     entries, _ = entries_of(random.Random(1), NAMED["G2-item"])
     wanted = check(program, lines_of(entries))
-    names = [(999_999_999_999_999, 123_456_789_012_345), ("users/1", "a-1.b:c_D"), ("x" * 64, "0"), ("007", 7)]
+    names = [(999_999_999_999_999, 123_456_789_012_345), ("users/1", "a-1.b:c_D"), ("x" * 64, "0"), ("007", 7),
+             (-999_999_999_999_999, -1), ("-7", 0)]
     for first, second in names:
         name = {1: first, 2: second}
         renamed = [it | {"value": [[word, name[key], what] for word, key, what in it["value"]]} if it["value"] else it for it in entries]
         report = re.sub(r"key (\d)", lambda it: f"key {name[int(it[1])]}", wanted[1])
         same(f"keys {name}", (1, report, ""), check(program, lines_of(renamed)))
         same(f"keys {name} in EDN", (1, report, ""), check(program, "".join(edn(it) + "\n" for it in renamed)))
+
+
+def takes_values_with_a_sign(program):
+    """Whole numbers of 15 digits with a sign: the same report, with these values."""
+    for history in (NAMED["G1b"], NAMED["duplicate-elements"], NAMED["unwritten"], NAMED["incompatible-order"], STRONGEST[2][2]):
+        entries, _ = entries_of(random.Random(1), [with_values(one, lambda value: 7_770 + value) for one in history])
+        wanted = check(program, lines_of(entries))
+        for most in (-7, 4_294_967_296, 999_999_999_999_990, -999_999_999_999_999):
+            renamed, _ = entries_of(random.Random(1), [with_values(one, lambda value, most=most: most + value) for one in history])
+            report = re.sub(r"\b777(\d)\b", lambda it, most=most: str(most + int(it[1])), wanted[1])
+            same(f"values from {most}", (1, report, ""), check(program, lines_of(renamed)))
+            same(f"values from {most} in EDN", (1, report, ""), check(program, "".join(edn(it) + "\n" for it in renamed)))
+    for value in ("-1000000000000000", "-1.0", '"-1"', "1e2", "-0.0"):
+        same(f"value {value}", 2, check(program, '{"type":"ok","process":1,"value":[["append",1,' + value + "]]}")[0])
+
+
+def with_values(transaction, value):
+    """The transaction with other values."""
+    return Transaction(transaction.status, [
+        (word, key, value(what) if word == "append" else tuple(map(value, what))) for word, key, what in transaction.operations])
 
 
 def skips_what_is_no_transaction(program):
@@ -611,6 +714,7 @@ def skips_what_is_no_transaction(program):
         reported = json.loads(check(program, lines_of(entries) + given, "--json")[1])
         same("skipped", given.count("\n"), reported["skipped"])
         alone = f"no operations; entries skipped, since they are of no transaction: {given.count(chr(10))}\n"
+        alone += 'an entry of a transaction has "f":"txn", or no f\n'
         same("alone", (2, "", alone), check(program, given))
     same("none", False, "skipped" in json.loads(check(program, lines_of(entries), "--json")[1]))
     entries[0].pop("f")
@@ -620,7 +724,7 @@ def skips_what_is_no_transaction(program):
 def refuses_nothing(program):
     for given in ("", "\n", "[]\n"):
         for options in ([], ["--strict"], ["--json"], ["--graph"], ["--timeline"]):
-            same(f"fault of {given!r}", (2, "", "no operations\n"), check(program, given, *options))
+            same(f"fault of {given!r}", (2, "", f"no operations\n{AN_ENTRY}\n"), check(program, given, *options))
 
 
 def refuses_an_end_of_other_operations(program):
@@ -636,6 +740,7 @@ def refuses_an_end_of_other_operations(program):
         value = entries[place]["value"] = [list(it) for it in entries[place]["value"]]
         spoil_operations(draw, value)
         reported = f"the operations are not those of the invocation, line {began + 1}, entry {began + 1}"
+        reported += f"\n{SAME_OPERATIONS}"
         same("fault", (2, "", f"line {place + 1}, entry {place + 1}: {reported}\n"), check(program, lines_of(entries)))
         count += 1
     return f"{count} histories"
@@ -664,11 +769,16 @@ BEGUN = '{"type":"invoke","process":1,"value":[]}\n'
 OTHER = '{"type":"invoke","process":2,"value":[]}'
 GOOD = '{"type":"ok","process":0,"f":"txn","value":[["append",1,1]]}\n'
 
+# What a second line says of an input without entries, and of an entry of another form.
+AN_ENTRY = 'an entry is an object, and its value a list of operations, as {"type":"ok","process":0,"value":[["append",1,2],["r",1,[2]]]}'
+SAME_OPERATIONS = "an end has the operations of its invoke, in their order, and in place of null what the reads saw"
+APPENDED_ONCE = "each append to a key has a value of its own, as from a counter: else a read does not say which one it saw"
+OTHER_FORMS = ("no object", "the value is not a list of operations", 'is not ["append",key,value] or ["r",key,values]')
+
 # Faulty inputs, with what is reported for them.
 IS_TEXT = "; text like r1[x] is read without --model list-append"
 NO_EDN = re.compile(r"line 2, entry 2: no JSON from column \d+ on")
 EDN = "{:type :ok, :process 0, :f :txn, :value [[:append 1 1]]}\n"
-NEGATIVE = 'a number from 0 or a text: "-1" is one, -1 is not'
 KEY, NO_KEY = "the key of operation", "is not a whole number, or a text of 1 to 64 letters, digits and _ . / : -"
 RESTART = "a recorder that starts again takes new processes, or first writes an info for each that it left"
 
@@ -689,6 +799,12 @@ FAULTS = {
     "\xef\xbb\xbf" + GOOD: "line 1, entry 1: no JSON from column 1 on\na byte order mark: save the input without it",
     GOOD + "\xc2\xa0" + GOOD: "line 2, entry 2: no JSON from column 1 on\na character that is not ASCII",
     '[{"type":"ok","process":0,"value":[]},{"type" "ok"}]': "line 1, entry 2: no JSON from column 47 on",
+    GOOD + "{'type':'ok'}": "line 2, entry 2: no JSON from column 2 on\na text stands in double quotes in JSON",
+    GOOD + "{type:'ok'}": "line 2, entry 2: no JSON from column 2 on\na word stands in double quotes in JSON, but for null, true and false",
+    GOOD.replace("[[", "[(").replace("]]", ")]"): "line 1, entry 1: no JSON from column 45 on\na list stands in square brackets in JSON",
+    GOOD.replace("]]", "],]"): "line 1, entry 1: no JSON from column 60 on\nnothing stands after the comma in JSON",
+    GOOD.strip() + " // one": "line 1, entry 2: no JSON from column 62 on\nJSON has no comments",
+    '{"type":"ok","process":0,"value":[["r",1,None]]}': "line 1, entry 1: no JSON from column 42 on\nJSON has null, true and false, in small letters",
     " r1[x]": "line 1, entry 1: no JSON from column 2 on" + IS_TEXT,
     "x": "line 1, entry 1: no JSON from column 1 on" + IS_TEXT,
     "r1[x] w1[x]": "line 1, entry 1: no JSON from column 1 on" + IS_TEXT,
@@ -708,7 +824,7 @@ FAULTS = {
     EDN + EDN.replace("ok", "done"): "line 2, entry 2: the type is not invoke, ok, fail or info",
     EDN.replace("[[:append 1 1]]", "[[:r 1 #{1}]]"): 'line 1, entry 1: operation 1 is not ["append",key,value] or ["r",key,values]',
     EDN.replace("[[:append 1 1]]", "[[:r 1 {1 2}]]"): 'line 1, entry 1: operation 1 is not ["append",key,value] or ["r",key,values]',
-    EDN.replace("[[:append 1 1]]", "[[:append 1 1N]]"): "line 1, entry 1: operation 1 has a value that is not a whole number from 0 to 4294967295",
+    EDN.replace("[[:append 1 1]]", "[[:append 1 1N]]"): "line 1, entry 1: operation 1 has a value that is not a whole number of at most 15 digits",
     GOOD + "{\n": "line 2, entry 2: no JSON from column 2 on\n" + cut_input(2, 2),
     GOOD + '{"type":"ok",\n "process" 1}': "line 3, entry 2: no JSON from column 12 on",
     "5": "line 1, entry 1: no object",
@@ -717,9 +833,9 @@ FAULTS = {
     GOOD + GOOD.replace(":", "", 1): "line 2, entry 2: no JSON from column 8 on",
     GOOD + "\n" + '{"process":0}': "line 3, entry 2: the type is not invoke, ok, fail or info\ntype is missing",
     '{"type":"ok"}': "line 1, entry 1: the process is not a whole number or a text\nprocess is missing",
-    '{"type":"ok","process":-1}': f"line 1, entry 1: the process is not a whole number or a text\na process is {NEGATIVE}",
-    EDN.replace(":process 0", ":process -1"): f"line 1, entry 1: the process is not a whole number or a text\na process is {NEGATIVE}",
-    GOOD.replace("1,1", "-1,1"): f"line 1, entry 1: {KEY} 1 {NO_KEY}\na key is {NEGATIVE}",
+    '{"type":"ok","process":-1.5}': "line 1, entry 1: the process is not a whole number or a text",
+    EDN.replace(":process 0", ":process [1]"): "line 1, entry 1: the process is not a whole number or a text",
+    GOOD.replace("1,1", "-1.5,1"): f"line 1, entry 1: {KEY} 1 {NO_KEY}",
     '{"type":"done","process":1}': "line 1, entry 1: the type is not invoke, ok, fail or info",
     '{"type":"ok","process":null,"f":"txn"}': "line 1, entry 1: the process is not a whole number or a text",
     '{"type":"ok","process":"c0","f":"txn","value":5}': "line 1, entry 1: the value is not a list of operations",
@@ -728,9 +844,9 @@ FAULTS = {
     '{"type":"ok","process":1,"value":[[]]}': 'line 1, entry 1: operation 1 is not ["append",key,value] or ["r",key,values]',
     '{"type":"ok","process":1,"value":[["r",1,[]],["w",1,2]]}': 'line 1, entry 1: operation 2 is not ["append",key,value] or ["r",key,values]',
     '{"type":"ok","process":1,"value":[["r",1,5]]}': 'line 1, entry 1: operation 1 is not ["append",key,value] or ["r",key,values]',
-    '{"type":"ok","process":1,"value":[["r",1,["a"]]]}': "line 1, entry 1: operation 1 has a value that is not a whole number from 0 to 4294967295",
-    '{"type":"ok","process":1,"value":[["append",1,4294967296]]}': "line 1, entry 1: operation 1 has a value that is not a whole number from 0 to 4294967295",
-    '{"type":"ok","process":1,"value":[["append",1,1.5]]}': "line 1, entry 1: operation 1 has a value that is not a whole number from 0 to 4294967295",
+    '{"type":"ok","process":1,"value":[["r",1,["a"]]]}': "line 1, entry 1: operation 1 has a value that is not a whole number of at most 15 digits",
+    '{"type":"ok","process":1,"value":[["append",1,1000000000000000]]}': "line 1, entry 1: operation 1 has a value that is not a whole number of at most 15 digits",
+    '{"type":"ok","process":1,"value":[["append",1,1.5]]}': "line 1, entry 1: operation 1 has a value that is not a whole number of at most 15 digits",
     '{"type":"ok","process":1,"value":[["append",null,1]]}':
         "line 1, entry 1: the key of operation 1 is not a whole number, or a text of 1 to 64 letters, digits and _ . / : -",
     '{"type":"ok","process":1,"value":[["append","a b",1]]}':
@@ -764,6 +880,9 @@ def reports_faults(program):
             continue
         if isinstance(wanted, re.Pattern):
             wanted = errors.rstrip() if wanted.fullmatch(errors.rstrip()) else wanted.pattern
+        if wanted.endswith(OTHER_FORMS):
+            wanted += "\n" + AN_ENTRY
+        wanted += f"\n{SAME_OPERATIONS}" * ("the operations are not those" in wanted) + f"\n{APPENDED_ONCE}" * (" a second time, " in wanted)
         same(f"fault of {given[:80]!r}", (2, "", wanted + "\n"), (status, text, errors))
 
 
@@ -891,8 +1010,9 @@ def records_databases(program):
 
 CASES = [on_all_small_histories, on_drawn_histories, on_drawn_histories_strictly, levels_of_all_small_histories, levels_of_drawn_histories,
          names_the_strongest_level, names_the_read_that_decides, keeps_the_order_of_begins, shortens_a_long_order, draws_the_level, names_anomalies, names_the_operations,
-         shows_values_of_a_long_read, ends_on_long_ones, reads_each_form, reads_edn,
-         takes_null_for_the_empty_list, takes_processes_of_any_name, takes_keys_of_any_name, skips_what_is_no_transaction, refuses_nothing,
+         shows_values_of_a_long_read, ends_on_long_ones, reads_each_form, reads_edn, notices_a_wrong_bracket_in_edn,
+         takes_null_for_the_empty_list, takes_processes_of_any_name, takes_keys_of_any_name,
+         takes_values_with_a_sign, skips_what_is_no_transaction, refuses_nothing,
          refuses_an_end_of_other_operations, keeps_time_only_with_invocations, reports_faults, names_the_line_that_is_cut, survives_hostile_bytes, needs_its_model, hints_at_its_model, draws_its_witness, recorded_ones,
          records_databases]
 

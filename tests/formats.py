@@ -7,8 +7,10 @@ language.
 Each case is reported as in `tests/program.py`, and the last line counts them.
 """
 
+import json
 import os
 import random
+import re
 import subprocess
 import sys
 import tempfile
@@ -702,53 +704,167 @@ def takes_spaces_and_escapes(sgt):
 
 # Explanations of errors
 
+# What is said of a line whose JSON does not end.
+GOES_ON = "the line ends where its JSON has to go on: each line is a JSON text of its own"
+
+# What is said of a line whose JSON ends before the line does, and of what follows it.
+ENDS = "the JSON of this line ends before it"
+OWN_LINE = "each event, job or record stands on a line of its own"
+
+# What is said of a first line that is too long.
+ACCOUNTS_AS_RECORDS = 'accounts may follow as lines, as ["record",0,1,101] for the customer 101 of name 1; 1 and 2 are the tables of saving and checking'
+
+# What is said of what stands where the name of a member has to.
+A_NAME = "the name of a member stands here in double quotes"
+A_REQUEST = "an event, a job or a record is a list, in square brackets"
+
+# Lines that are not JSON, with the column of the first wrong character, and what is said of it.
+FIRST_WRONG = (
+    # Brackets around the line.
+    ('"job",5,[1]', 6, f"{ENDS}: a list stands in square brackets"),
+    ('"job": 5', 6, f"{ENDS}: an object stands in {{ }}"),
+    ('["begin"],7', 10, f"{ENDS}: {OWN_LINE}"),
+    ('["job",5,[1]],["job",5,[1]]', 14, f"{ENDS}: {OWN_LINE}"),
+    ('["job",5],[1]]', 10, f"{ENDS}: a ] before it is too many"),
+    ('{"limits":[4,1000]},"accounts":[],"procedures":[]}', 20, f"{ENDS}: a }} before it is too many"),
+    ('["begin"] # begins', 11, f"{ENDS}: there are no comments"),
+    ('["begin"];', 10, ENDS),
+    ("]", 1, "nothing is open that this could close"),
+    ("}", 1, "nothing is open that this could close"),
+    # Objects for lists.
+    ('{"job",5,[1]}', 7, f"a colon stands after the name of a member; {A_REQUEST}"),
+    ('{"start",0}', 9, f"a colon stands after the name of a member; {A_REQUEST}"),
+    ('{"limits",[4,1000]}', 10, "a colon stands after the name of a member"),
+    ('{"job":5,[1]}', 10, f"{A_NAME}; {A_REQUEST}"),
+    ('["job",5,{1}]', 11, f"{A_NAME}; a list stands in square brackets"),
+    ('["job",5,{"a",1}]', 14, "a colon stands after the name of a member"),
+    # Separators.
+    ('["job":5,[1]]', 7, "a comma separates the items of a list"),
+    ('["job",5,[1;2]]', 12, "a comma separates the items of a list"),
+    ('["job",5,[1 2]]', 13, "a comma is missing before it"),
+    ('["step"=0]', 8, "a comma separates the items of a list"),
+    ('["step":0]', 8, "a comma separates the items of a list"),
+    ('{"limits":[4,1000];"accounts":[]}', 19, "a comma separates the members of an object"),
+    ('{"limits":[4,1000],"accounts":[],"procedures":}', 47, "a value is missing after the colon"),
+    ('{"limits":[4,1000],"accounts":[],"procedures":]}', 47, "a value is missing after the colon"),
+    ('{"limits":,"accounts":[],"procedures":[]}', 11, "a value is missing after the colon"),
+    ('{,"limits":[4,1000]}', 2, "nothing stands before the comma"),
+    ("[}", 2, "a list ends in ]"),
+    ("{]", 2, "an object ends in }"),
+    # Lists in lists.
+    ('{"limits":[4,1000],"accounts":[],"procedures":[0,[["answer",1]]],[0,[["answer",2]]]}', 66,
+     f'{A_NAME}: the list of "procedures" ended at column 64: its own brackets are missing, as in [[1,2],[3,4]]'),
+    ('{"limits":[4,1000],"accounts":[1,101,5,5],[2,102,5,5],"procedures":[]}', 43,
+     f'{A_NAME}: the list of "accounts" ended at column 41: its own brackets are missing, as in [[1,2],[3,4]]'),
+    ('{"limits":[4,1000],"accounts":[[1,101,5,5]],[2,102,5,5]],"procedures":[]}', 45,
+     f'{A_NAME}: the list of "accounts" ended at column 43: a ] is too many'),
+    ('{"limits":[4],1000],"accounts":[],"procedures":[]}', 15, A_NAME),
+    ('{"limits":[4,1000,"accounts":[],"procedures":[]}', 29, "no colon stands in a list: the list that begins at column 11 may lack its ]"),
+    ('{"limits":[4,1000],"accounts":[[1,101,5,5],"procedures":[]}', 56, "no colon stands in a list: the list that begins at column 31 may lack its ]"),
+    ('{"limits":4,1000,"accounts":[],"procedures":[]}', 13,
+     f'{A_NAME}: the value of "limits" ended at column 11, and a list stands in square brackets'),
+    # Quotes.
+    ('["job,5,[1]]', 2, None),
+    ('["start,0,[1]]', 2, None),
+    ('{"limits":[4,1000],"accounts":[],"procedures:[]}', 34, None),
+    ('["job",5,[1]], "', 14, f"{ENDS}: {OWN_LINE}"),
+    ('{"limits":[4,1000],"accounts":[],"procedures":[[1,[["look,0,2,["arg",0],1]]]]}', 65, "the text at column 53 is followed by a word: a quote may be missing in it"),
+    ('{"limits:[4,1000],"accounts":[],"procedures":[]}', 20, "the text at column 2 is followed by a word: a quote may be missing in it"),
+    ('[job",5,[1]]', 2, "a word stands in double quotes"),
+    ("['job',5,[1]]", 2, "a text stands in double quotes"),
+    ("[\u00abjob\u00bb,5,[1]]", 2, 'a text stands in plain double quotes, as "step"'),
+    ('["job",5,[\u00b51]]', 11, "this is not ASCII"),
+    # Values, and what stands in texts.
+    ('["job",5,[$5]]', 11, "a value stands here: a number, a text in double quotes, or a list in square brackets"),
+    ('["job",5,[None]]', 11, "a word stands in double quotes"),
+    ('["job",5,(1)]', 10, "a list stands in square brackets"),
+    ('["job",5,[1]/* x */]', 13, "there are no comments"),
+    ('["jo\tb",5,[1]]', 5, CONTROL := "a tab or another control character stands in a text as \\t, or as \\u and four hexadecimal digits"),
+    ('["jo\x1bb",5,[1]]', 5, CONTROL),
+    ('["j\\xb",5,[1]]', 4, ESCAPE := 'in a text a backslash stands before ", \\, /, b, f, n, r, t, or u and four hexadecimal digits'),
+    ('["j\\u00g0b",5,[1]]', 4, ESCAPE),
+    ('["j\\ud800b",5,[1]]', 2, "an escape in this text is half a character"),
+)
+
 # A first line, its error, and the explanation.
 EXPLAINED_OPENINGS = (
-    ("", "not JSON", "column 1: the line is empty"),
-    ('{"limits":[1,1]', "not JSON", "column 16: the line ends where its JSON has to go on"),
-    ('{"limits":[1,1],}', "not JSON", "column 17: not JSON from here"),
+    ("", "not JSON", "column 1: the line is empty: leave it out"),
+    ("# mine", "not JSON", "column 1: not JSON from here: there are no comments; a history, which may have some, is read by sgt check"),
+    ("// mine", "not JSON", "column 1: not JSON from here: there are no comments"),
+    ("/* mine */", "not JSON", "column 1: not JSON from here: there are no comments"),
+    ("B1 r1[x] C1", "not JSON", "column 1: not JSON from here: a history like r1[x] is read by sgt check"),
+    ("b1 r1[x] c1", "not JSON", "column 1: not JSON from here: a history like r1[x] is read by sgt check"),
+    ("{'limits':[1,1]}", "not JSON", "column 2: not JSON from here: a text stands in double quotes"),
+    ("{limits:[1,1]}", "not JSON", "column 2: not JSON from here: a word stands in double quotes"),
+    ('{"limits":[1,1]', "not JSON", f"column 16: {GOES_ON}"),
+    ('{"limits":[1,1],}', "not JSON", "column 17: not JSON from here: nothing stands after the comma"),
     ('{"limits":[1,1],"accounts":[],"procedures":[[0,[["answer",1]],[0,[]]]}', "not JSON",
-     "column 70: not JSON from here: a bracket is missing in procedure 5, which begins at column 45"),
+     'column 63: ] is expected here: a bracket is missing or too many in or after ["answer",1]] at column 49, a statement of procedure 5, which begins at column 45'),
     ('{"limits":[1,1],"accounts":[],"procedures":[[0,[["ask",1]]],[ 12 , [["answer",["sum",1,2]]]}', "not JSON",
-     "column 92: not JSON from here: a bracket is missing in procedure 6, which begins at column 61"),
+     'column 92: ] is expected here: a bracket is missing or too many in or after ["answer",["sum",1,2]]] at column 69, a statement of procedure 6, which begins at column 61'),
     ('{"limits":[1,1e999],"accounts":[]}', "not JSON", "column 19: the number before it is too large"),
-    ("[]", "bad line", 'expected an opening, as {"limits":[1,10],"accounts":[],"procedures":[]}, found []'),
+    ("r1[x] w2[x]", "not JSON", "column 1: not JSON from here: a history like r1[x] is read by sgt check"),
+    ("{:type :ok, :process 0}", "not JSON", "column 1: not JSON from here: what clients saw is read by sgt check --model list-append"),
+    ('{"limits":[1,1] "accounts":[]}', "not JSON", "column 17: not JSON from here: a comma is missing before it"),
+    ('{"limits" [1,1]}', "not JSON", "column 11: not JSON from here: a colon is missing before it"),
+    ('{"limits"=[1,1]}', "not JSON", "column 10: not JSON from here: a colon stands after the name of a member"),
+    ('{"type":"ok","process":0,"value":[]}', "bad line", "an entry of what clients saw stands here: sgt check --model list-append reads it"),
+    ("[]", "bad line", 'expected an opening, as {"limits":[16,1000,1],"accounts":[],"procedures":[]}, found []'),
     ('{"limits":[1,1],"accounts":[]}', "bad line", 'the member "procedures" is missing'),
     ('{"limit":[1,1],"accounts":[],"procedures":[]}', "bad line", 'the member "limits" is missing, and "limit" is unknown'),
     ('{"limits":[1,1],"accounts":[],"procedures":[],"more":0}', "bad line", 'the member "more" is unknown'),
-    (opening("7"), "bad line", '"limits": expected a list of two or three whole numbers, found 7'),
-    (opening("[1]"), "bad line", '"limits": expected a list of two or three whole numbers, found [1]'),
-    (opening("[1,1.5]"), "bad line", '"limits": expected a whole number as the second, found 1.5'),
-    (opening("[1,1,null]"), "bad line", '"limits": expected a whole number as the third, found null'),
-    (opening(accounts="{}"), "bad line", '"accounts": expected a list, found {}'),
-    ('{"limits":[1,1],"accounts":[],"procedures":7}', "bad line", '"procedures": expected a list, found 7'),
-    (opening("[0,1]", "[[1,2,3,4],[1,2,3]]"), "bad line", '"accounts": expected [name,customer,saving,checking] as account 2, found [1,2,3]'),
-    (opening(accounts='[[1,2,"3",4]]'), "bad line", '"accounts": expected a whole number as the saving of account 1, found "3"'),
-    (opening("[33,0]"), "bad limits", '"limits": the first number is 33, and has to be from 1 to 32'),
-    (opening("[1,0]"), "bad limits", '"limits": the second number is 0, and has to be from 1 to 4000000000'),
-    (opening("[1,1,2]"), "bad limits", '"limits": the third number is 2, and has to be from 0 to 1'),
-    (opening(accounts="[[1,101,0,0],[1,101,0,0]]"), "bad opening 1", '"accounts": account 2 has the name 1 of account 1'),
-    (opening(accounts="[[1,101,0,0],[2,102,0,0],[3,102,0,0],[1,1,1,1]]"), "bad opening 2", '"accounts": account 3 has the customer 102 of account 2'),
-    (opening(accounts="[[1,101,0,0],[1,101,0,1000000000000000]]"), "bad opening 3",
+    ('{"limits":[1,1],"accounts":[],"procedures":[],"records":[[3,1,7]]}', "bad line",
+     'the member "records" is unknown: records are lines after line 1, as ["record",3,1,7]'),
+    ('{"limits":[1,1],"accounts":[],"record":[]}', "bad line",
+     'the member "procedures" is missing, and "record" is unknown: records are lines after line 1, as ["record",3,1,7]'),
+    (opening("@7"), "bad line", '"limits": expected a list of two or three whole numbers, found 7'),
+    (opening("@[1]"), "bad line", '"limits": expected a list of two or three whole numbers, found [1]'),
+    (opening("[1,@1.5]"), "bad line", '"limits": expected a whole number as the second, found 1.5'),
+    (opening("[1, 1 , @null]"), "bad line", '"limits": expected a whole number as the third, found null'),
+    (opening(accounts="@{}"), "bad line", '"accounts": expected a list, found {}'),
+    ('{"limits":[1,1],"accounts":[],"procedures" : @7}', "bad line", '"procedures": expected a list, found 7'),
+    (opening("[0,1]", "[[1,2,3,4],@[1,2,3]]"), "bad line", '"accounts": expected [name,customer,saving,checking] as account 2, found [1,2,3]'),
+    (opening(accounts='[[1,2,@"3",4]]'), "bad line", '"accounts": expected a whole number as the saving of account 1, found "3"'),
+    (opening(accounts="[@1,101,500,1000]"), "bad line",
+     '"accounts": expected [name,customer,saving,checking] as account 1, found 1: an account is a list in the list of accounts, as [[1,101,500,1000]]'),
+    (opening("[@33,0]"), "bad limits", '"limits": the first number is 33, and has to be from 1 to 32'),
+    (opening("[1,@0]"), "bad limits", '"limits": the second number is 0, and has to be from 1 to 4000000000'),
+    (opening("[1,1,@2]"), "bad limits", '"limits": the third number is 2, and has to be from 0 to 1'),
+    (opening(accounts="[[1,101,0,0],[@1,101,0,0]]"), "bad opening 1", '"accounts": account 2 has the name 1 of account 1'),
+    (opening(accounts="[[1,101,0,0],[2,102,0,0],[3,@102,0,0],[1,1,1,1]]"), "bad opening 2", '"accounts": account 3 has the customer 102 of account 2'),
+    (opening(accounts="[[1,101,0,0],[1,101,0,@1000000000000000]]"), "bad opening 3",
      '"accounts": the checking of account 2 is 1000000000000000, and has to be from -999999999999999 to 999999999999999'),
 )
 
+# What the explanations of procedures say of their parts.
+STATEMENTS = "a statement starts with look, find, put, remove, let, ask, if or answer"
+EXPRESSIONS = "an expression starts with arg, reg, sum, diff, product or quotient"
+A_STATEMENT = 'a statement is a list that starts with its word, as ["ask",7]'
+AN_EXPRESSION = 'an expression is a whole number, or a list that starts with its word, as ["arg",0]'
+
 # An only procedure, its error, and the explanation after its number.
 EXPLAINED_PROCEDURES = (
-    ("7", "shape top", "at top: expected [arguments,[statement,..]], found 7"),
+    ("7", "shape top", 'at top: expected [arguments,[statement,..]], found 7: a procedure is a list in the list of procedures, as [[0,[["answer",7]]]]'),
     ("[0,[],[]]", "shape top", "at top: expected [arguments,[statement,..]], found [0,[],[]]"),
     ("[300,[]]", "shape 0", "at 0: expected a number of arguments from 0 to 4, found 300"),
     ("[0,5]", "shape 1", "at 1: expected a list of statements, found 5"),
-    ('[0,[["jump"]]]', "shape 1 0", 'at 1 0: unknown word "jump"'),
-    ('[0,[["sum",1,2]]]', "shape 1 0", 'at 1 0: "sum" does not begin a statement'),
+    ('[0,[["jump"]]]', "shape 1 0", f'at 1 0: unknown word "jump": {STATEMENTS}'),
+    ('[0,[["sum",1,2]]]', "shape 1 0", f'at 1 0: "sum" does not begin a statement: {STATEMENTS}'),
     ('[0,[["ask",1,2]]]', "shape 1 0", 'at 1 0: expected ["ask",code], found ["ask",1,2]'),
     ('[0,[["if",["less",1,2],[]]]]', "shape 1 0", 'at 1 0: expected ["if",condition,[statement,..],[statement,..]], found ["if",["less",1,2],[]]'),
-    ("[0,[[7,1]]]", "shape 1 0", "at 1 0: expected a statement, found [7,1]"),
-    ('[0,[["ask",1],["let",0,"x"]]]', "shape 1 1 2", 'at 1 1 2: expected an expression, found "x"'),
-    ('[0,[["answer",["times",1,2]]]]', "shape 1 0 1", 'at 1 0 1: unknown word "times"'),
+    ("[0,[[7,1]]]", "shape 1 0", f"at 1 0: expected a statement, found [7,1]: {A_STATEMENT}"),
+    ("[0,[7]]", "shape 1 0", f"at 1 0: expected a statement, found 7: {A_STATEMENT}"),
+    ('[0,[[["ask",7]]]]', "shape 1 0", f'at 1 0: expected a statement, found [["ask",7]]: {A_STATEMENT}'),
+    ('[0,["ask",7]]', "shape 1 0", 'at 1 0: expected a statement, found "ask": a statement is a list in the list of statements, as [["ask",code]]'),
+    ('[0,[["if",["less",1,2],["put",1,2,3],[]]]]', "shape 1 0 2 0",
+     'at 1 0 2 0: expected a statement, found "put": a statement is a list in the list of statements, as [["put",table,expression,expression]]'),
+    ('[0,["sum",1,2]]', "shape 1 0", f'at 1 0: expected a statement, found "sum": {A_STATEMENT}'),
+    ('[0,[["ask",1],["let",0,"x"]]]', "shape 1 1 2", f'at 1 1 2: expected an expression, found "x": {AN_EXPRESSION}'),
+    ('[0,[["answer",["times",1,2]]]]', "shape 1 0 1", f'at 1 0 1: unknown word "times": {EXPRESSIONS}'),
     ('[0,[["answer",["sum",1]]]]', "shape 1 0 1", 'at 1 0 1: expected ["sum",expression,expression], found ["sum",1]'),
-    ('[0,[["if",true,[],[]]]]', "shape 1 0 1", "at 1 0 1: expected a condition, found true"),
-    ('[0,[["if",["sum",1,2],[],[]]]]', "shape 1 0 1", 'at 1 0 1: "sum" does not begin a condition'),
+    ('[0,[["if",true,[],[]]]]', "shape 1 0 1", "at 1 0 1: expected a condition, found true: a condition is a list that starts with its word, as [\"less\",1,2]"),
+    ('[0,[["if",["sum",1,2],[],[]]]]', "shape 1 0 1", 'at 1 0 1: "sum" does not begin a condition: a condition starts with less (<), most (<=) or same (=)'),
+    ('[0,[["if",["more",1,2],[],[]]]]', "shape 1 0 1", 'at 1 0 1: unknown word "more": a condition starts with less (<), most (<=) or same (=)'),
     ('[0,[["let",256,0]]]', "shape 1 0 1", "at 1 0 1: expected a register from 0 to 15, found 256"),
     ('[0,[["remove",0,1,2]]]', "shape 1 0", 'at 1 0: expected ["remove",table,expression], found ["remove",0,1,2]'),
     ('[0,[["remove",256,0]]]', "shape 1 0 1", "at 1 0 1: expected a table from 0 to 7, found 256"),
@@ -772,57 +888,70 @@ EXPLAINED_PROCEDURES = (
     ('[0,[["answer",1000000000000000]]]', "flaw 10", "at 1 0 1: 1000000000000000 has more than fifteen digits"),
 )
 
+# What is said of what is meant as a number, and is none.
+NUMBERS = "a number is written as 10 or -5, without a plus, a leading zero or other signs"
+
+# What is said of a word with which no line of a script starts.
+FIRST_WORDS = "a line starts with start, step, commit, quit (abort), begin, read, write, remove or cut; before the first of these, with record"
+
+# The same of a bank.
+A_JOB = 'a job is ["job",procedure,[argument,..]]; before the first job, a line may start with record'
+
 # A line after line 1 of a script and of a bank, and the explanation of its error.
 EXPLAINED_EVENTS = (
     ("7", 'expected an event, as ["step",0], found 7'),
+    ('["read",0,3,@1.5]', "expected a whole number of at most 15 digits as the number, found 1.5"),
+    ('[ "read" , 0 , @"3" , 1 ]', 'expected a table from 0 to 7, found "3"'),
+    ('["read","[\\",",3,1]'.replace('"[', '@"['), 'expected a transaction from 0 to 4294967295, found "[\\","'),
+    ('["start",@"Balance",[1]]', 'expected a procedure from 0 to 65535, found "Balance": a procedure is named by its number, and those of line 1 are numbered from 5'),
     ("[]", 'expected an event, as ["step",0], found []'),
     ('[["step",0]]', 'expected an event, as ["step",0], found [["step",0]]'),
     ('{"step" : 0, "at" : [ ], "b" : 1}', 'expected an event, as ["step",0], found {"step":0,"at":[],"b":1}'),
-    ('["step",100000000000000000000]', "expected a transaction from 0 to 4294967295, found 100000000000000000000"),
-    ('["start",1,[1, 123456789012345678901 ]]', "expected a whole number of at most 15 digits as argument 1, found 123456789012345678901"),
-    ('["write",0,3,1,1E5]', "expected a whole number of at most 15 digits as the value, found 1E5"),
+    ('["step",@100000000000000000000]', "expected a transaction from 0 to 4294967295, found 100000000000000000000"),
+    ('["start",1,[1, @123456789012345678901 ]]', "expected a whole number of at most 15 digits as argument 1, found 123456789012345678901"),
+    ('["write",0,3,1,@1E5]', "expected a whole number of at most 15 digits as the value, found 1E5"),
     ('["step",0,"]",{"z":"\\\\","a":1}]', 'expected ["step",transaction], found ["step",0,"]",{"z":"\\\\","a":1}]'),
-    ('["stop",0]', 'unknown word "stop"'),
+    ('["stop",0]', f'unknown word "stop": {FIRST_WORDS}'),
     ('["job",0,[]]', 'a job stands in the input of "sgt script", which takes events: ["start",procedure,[argument,..]]'),
     ('["step"]', 'expected ["step",transaction], found ["step"]'),
     ('["commit",0,0]', 'expected ["commit",transaction], found ["commit",0,0]'),
-    ('["quit","0"]', 'expected a transaction from 0 to 4294967295, found "0"'),
-    ('["step",4294967296]', "expected a transaction from 0 to 4294967295, found 4294967296"),
+    ('["quit",@"0"]', 'expected a transaction from 0 to 4294967295, found "0"'),
+    ('["step",@4294967296]', "expected a transaction from 0 to 4294967295, found 4294967296"),
     ('["cut",0]', 'expected ["cut"], found ["cut",0]'),
     ('["begin",0]', 'expected ["begin"], found ["begin",0]'),
     ('["read",0,3]', 'expected ["read",transaction,table,number], found ["read",0,3]'),
     ('["remove",0,3,1,1]', 'expected ["remove",transaction,table,number], found ["remove",0,3,1,1]'),
     ('["write",0,3,1]', 'expected ["write",transaction,table,number,value], found ["write",0,3,1]'),
-    ('["read",-1,3,1]', "expected a transaction from 0 to 4294967295, found -1"),
-    ('["write",0,8,1,1.5]', "expected a table from 0 to 7, found 8"),
-    ('["remove",0,3,1000000000000000]', "expected a number of at most 15 digits, found 1000000000000000"),
-    ('["write",0,3,1,1.5]', "expected a whole number of at most 15 digits as the value, found 1.5"),
+    ('["read",@-1,3,1]', "expected a transaction from 0 to 4294967295, found -1"),
+    ('["write",0,@8,1,1.5]', "expected a table from 0 to 7, found 8"),
+    ('["remove",0,3,@1000000000000000]', "expected a whole number of at most 15 digits as the number, found 1000000000000000"),
+    ('["write",0,3,1,@1.5]', "expected a whole number of at most 15 digits as the value, found 1.5"),
     ('["start",0]', 'expected ["start",procedure,[argument,..]], found ["start",0]'),
-    ('["start",65536,[]]', "expected a procedure from 0 to 65535, found 65536"),
-    ('["start",0,1]', "expected a list of arguments, found 1"),
-    ('["start",0,[1,2,3,4,5]]', "5 arguments are given, and at most 4 may be"),
-    ('["start",0,[1,2.5]]', "expected a whole number of at most 15 digits as argument 1, found 2.5"),
+    ('["start",@65536,[]]', "expected a procedure from 0 to 65535, found 65536"),
+    ('["start",0,@1]', "expected a list of arguments, found 1"),
+    ('["start",0,@[1,2,3,4,5]]', "5 arguments are given, and at most 4 may be"),
+    ('["start",0,[1,@2.5]]', "expected a whole number of at most 15 digits as argument 1, found 2.5"),
 )
 
 EXPLAINED_JOBS = (
     ("{}", 'expected a job, as ["job",0,[1]], found {}'),
-    ('["jobs",0,[]]', 'unknown word "jobs"'),
+    ('["jobs",0,[]]', f'unknown word "jobs": {A_JOB}'),
     ('["step",0]', 'an event stands in the input of "sgt bank", which takes jobs: ["job",procedure,[argument,..]]'),
     ('["begin"]', 'an event stands in the input of "sgt bank", which takes jobs: ["job",procedure,[argument,..]]'),
     ('["write",0,3,1,1]', 'an event stands in the input of "sgt bank", which takes jobs: ["job",procedure,[argument,..]]'),
     ('["cut"]', 'an event stands in the input of "sgt bank", which takes jobs: ["job",procedure,[argument,..]]'),
     ('["job",0]', 'expected ["job",procedure,[argument,..]], found ["job",0]'),
-    ('["job",-1,[]]', "expected a procedure from 0 to 65535, found -1"),
-    ('["job",0,[null]]', "expected a whole number of at most 15 digits as argument 0, found null"),
+    ('["job",@-1,[]]', "expected a procedure from 0 to 65535, found -1"),
+    ('["job",0,[@null]]', "expected a whole number of at most 15 digits as argument 0, found null"),
 )
 
 # Record lines that put no record behind an opening of the account [1,101,500,1000] and ["record",4,7,8].
 EXPLAINED_RECORDS = (
-    ('["record",8,1,1]', "the table is 8, and has to be from 0 to 7"),
-    ('["record",-1,1,1000000000000000]', "the table is -1, and has to be from 0 to 7"),
-    ('["record",3,1000000000000000,1]', "the number is 1000000000000000, and has to be from -999999999999999 to 999999999999999"),
-    ('["record",3,-9223372036854775808,1000000000000000]', "the number is -9223372036854775808, and has to be from -999999999999999 to 999999999999999"),
-    ('["record",4,7,-1000000000000000]', "the value is -1000000000000000, and has to be from -999999999999999 to 999999999999999"),
+    ('["record",@8,1,1]', "the table is 8, and has to be from 0 to 7"),
+    ('["record",@-1,1,1000000000000000]', "the table is -1, and has to be from 0 to 7"),
+    ('["record",3,@1000000000000000,1]', "the number is 1000000000000000, and has to be from -999999999999999 to 999999999999999"),
+    ('["record",3,@-9223372036854775808,1000000000000000]', "the number is -9223372036854775808, and has to be from -999999999999999 to 999999999999999"),
+    ('["record",4,7,@-1000000000000000]', "the value is -1000000000000000, and has to be from -999999999999999 to 999999999999999"),
     ('["record",4,7,7]', "record 4/7 is there already"),
     ('["record",2,101,1]', "record 2/101 is there already"),
 )
@@ -831,23 +960,58 @@ EXPLAINED_RECORDS = (
 EXPLAINED_NO_RECORDS = (
     ('["record",3,1]', 'expected ["record",table,number,value], found ["record",3,1]'),
     ('["record",3,1,1,1]', 'expected ["record",table,number,value], found ["record",3,1,1,1]'),
-    ('["record","3",1,1]', 'expected ["record",table,number,value], found ["record","3",1,1]'),
-    ('["record",3,1,1.0]', 'expected ["record",table,number,value], found ["record",3,1,1.0]'),
-    ('["record",3,1,9223372036854775808]', 'expected ["record",table,number,value], found ["record",3,1,9223372036854775808]'),
-    ('["records",3,1,1]', 'unknown word "records"'),
+    ('["record",@"3",1,1]', 'expected a table from 0 to 7, found "3"'),
+    ('["record",@9,"1",1]', "expected a table from 0 to 7, found 9"),
+    ('["record",3,@"3007",1]', 'expected a whole number of at most 15 digits as the number, found "3007"'),
+    ('["record",3,@1000000000000000,null]', "expected a whole number of at most 15 digits as the number, found 1000000000000000"),
+    ('["record",3,1,@1.0]', "expected a whole number of at most 15 digits as the value, found 1.0"),
+    ('["record",3,1,@9223372036854775808]', "expected a whole number of at most 15 digits as the value, found 9223372036854775808"),
+    ('["records",3,1,1]', 'unknown word "records": {starts}'),
 )
 
 # What of these lines is shown is cut short, and does nothing to a terminal.
 EXPLAINED_TEXTS = (
-    (f'["{"x" * 99}",0]', f'unknown word "{"x" * 39}..'),
-    (f'["{"x" * 38}",0]', f'unknown word "{"x" * 38}"'),
-    ('["\\u001b[2J\\n",0]', 'unknown word "\\u001b[2J\\n"'),
-    ('["\\u007f\\u009b\\u202e\\ud83d\\ude00",0]', 'unknown word "????"'),
+    (f'["{"x" * 99}",0]', f'unknown word "{"x" * 39}..: {FIRST_WORDS}'),
+    (f'["{"x" * 38}",0]', f'unknown word "{"x" * 38}": {FIRST_WORDS}'),
+    ('["\\u001b[2J\\n",0]', f'unknown word "\\u001b[2J\\n": {FIRST_WORDS}'),
+    ('["\\u007f\\u009b\\u202e\\ud83d\\ude00",0]', f'unknown word "????": {FIRST_WORDS}'),
 )
 
 
+def at_mark(given, more):
+    """The input without its mark, and what is said more, after the column at which the marked part begins in its line."""
+    before, mark, after = given.partition("@")
+    column = len(before) - before.rfind("\n")
+    return before + after, f"column {column}: {more}" if mark else more
+
+
+# What stands before the procedures, and a reader of the parts of one.
+BEFORE_PROCEDURES = len(opening(procedures="@").partition("@")[0])
+DECODER = json.JSONDecoder()
+
+
+def begin_of(text, place):
+    """The index at which the part at these positions begins in a list without spaces."""
+    at = 0
+    for position in place:
+        at += 1
+        for _ in range(position):
+            at = DECODER.raw_decode(text, at)[1] + 1
+    return at
+
+
+def of_procedure(text, more, number=5, before=""):
+    """What is said more of a place of the procedure of this text, which comes after these, after its column."""
+    place = re.match("at ([0-9 ]+|top)", more)[1]
+    index = begin_of(text, [] if place == "top" else map(int, place.split()))
+    return f"column {BEFORE_PROCEDURES + len(before) + index + 1}: procedure {number}, {more}\n"
+
+
 def reports_more(sgt, command, given, fault, more):
-    """A second line says more of an error, also with the option that explains aborts, where lines of refused events come before it."""
+    """A second line says more of an error, also with the option that explains aborts, where lines of refused events come before it.
+    It begins with the column of the part that is marked."""
+    if isinstance(given, str):
+        given, more = at_mark(given, more)
     status, out, reported = sgt.run(*command, given=given)
     same(f"{given!r:.200}", (2, fault + more), (status, reported))
     *came, reported = sgt.run(*command, "--explain", given=given)
@@ -862,15 +1026,66 @@ def explains_openings(sgt):
 
 
 def explains_too_few_for_the_workers(sgt):
-    reports_more(sgt, ["bank"], opening("[3,1]"), "line 1: bad limits\n", '"limits": the first number is 3, and the workers are 4: more than transactions may be live; take fewer with --workers\n')
+    reports_more(sgt, ["bank"], opening("[@3,1]"), "line 1: bad limits\n", '"limits": the first number is 3, and the workers are 4: more than transactions may be live; take fewer with --workers\n')
 
 
 def explains_procedures(sgt):
     for procedure, fault, more in EXPLAINED_PROCEDURES:
         given = opening(procedures=procedure)
-        reports_more(sgt, ["script"], given, f"line 1: procedure 5 {fault}\n", f"procedure 5, {more}\n")
+        reports_more(sgt, ["script"], given, f"line 1: procedure 5 {fault}\n", of_procedure(procedure, more))
     given = opening(procedures='[0,[]],[0,[["jump"]]]')
-    reports_more(sgt, ["bank"], given.replace("[1,1]", "[4,1]"), "line 1: procedure 6 shape 1 0\n", 'procedure 6, at 1 0: unknown word "jump"\n')
+    more = of_procedure('[0,[["jump"]]]', f'at 1 0: unknown word "jump": {STATEMENTS}', 6, "[0,[]],")
+    reports_more(sgt, ["bank"], given.replace("[1,1]", "[4,1]"), "line 1: procedure 6 shape 1 0\n", more)
+    spaced = ' { "procedures" : [ [ 0 , [ [ "let" , 0 , 1 ] , @[ "jump" ] ] ] ] , "accounts" : [ ] , "limits" : [ 1 , 1 ] } '
+    reports_more(sgt, ["script"], spaced, "line 1: procedure 5 shape 1 1\n", f'procedure 5, at 1 1: unknown word "jump": {STATEMENTS}\n')
+    brackets = '{"limits":[1,1],"accounts":[],"procedures":[[0,[["look",0,0,["sum",1,2],@"[,\\"]"]]]]}'
+    reports_more(sgt, ["script"], brackets, "line 1: procedure 5 shape 1 0 4\n", 'procedure 5, at 1 0 4: expected a code from 1 to 999, found "[,\\"]"\n')
+
+
+def explains_brackets(sgt):
+    """In which procedure one is missing or too many, in or after which statement, and the column at which the form of procedures ends.
+    The statement is marked."""
+    first = '{"limits":[1,1],"accounts":[],"procedures":['
+    for before, procedures, column, wanted, within, number, start in (
+        # One is missing: of the procedure, of its statements, of an expression, of a branch, of the word's list.
+        ("", '[0,[@["ask",2]],[0,[]]]}', 16, "]", "in or after", 5, 1),
+        ("", '[0,[@["ask",2],[0,[]]]]}', 16, "a word", "in or after", 5, 1),
+        ("[0,[]],", '[1,[@["look",0,3,["arg",0,3],["answer",1]]]]}', 26, "]", "in", 6, 8),
+        ("", '[0,[@["if",["less",1,2],[["ask",1],[]],["ask",3]]]]}', 36, "a word", "in", 5, 1),
+        ("", '[0,[["ask",1],@["let", 2,["sum",3,4],["put",1,2,3]]]]}', 37, "]", "in", 5, 1),
+        ("", '[0,[@["if",["less",["sum",1,2],["sum",3,4]],[["ask",1]],[],["ask",3]]]]}', 59, "]", "in", 5, 1),
+        ("", '[0,[@["ask",2]]}', 15, "]", "in or after", 5, 1),
+        ("", '[0,[@["ask",2}', 13, "]", "in", 5, 1),
+        ("", '[0,[@["ask",2]]]}', 16, "]", "in or after", 5, 1),
+        ("", '[0,[@["ask",2]}', 14, "]", "in or after", 5, 1),
+        ("", '[0,[@["ask"}', 11, "a code from 1 to 999", "in", 5, 1),
+        # One is too many: at an end, in an expression, at a start.
+        ("", '[0,[@["ask",2]]]],[0,[]]]}', 16, "a comma", "in or after", 5, 1),
+        ("", '[0,[@["ask",2]]] ] ]}', 19, "} or a comma", "in or after", 5, 1),
+        ("", '[1,[@["look",0,3,["arg",0]],3],["ask",1]]],[0,[]]]}', 26, "a code from 1 to 999", "in", 5, 1),
+        ("", '[0,[[["ask",2]]]}', 6, "a word", "in", 5, 1),
+        ('[0,[["ask",1]]],', '[[0,[["ask",2]]]}', 2, "a number of arguments from 0 to 4", "in", 6, 17),
+        # After a list with an unknown word.
+        ("", '[0,[["jump",["a"],[[1],2]],@["ask",2]],[0,[]]]}', 39, "]", "in or after", 5, 1),
+    ):
+        place = procedures.find("@")
+        procedures = procedures.replace("@", "")
+        if place >= 0:
+            shown = procedures[place:column - 1].replace(" ", "").rstrip(",")
+            shown = shown if len(shown) <= 40 else f"{shown[:40]}.."
+            within += f" {shown} at column {len(first) + len(before) + place + 1}, a statement of"
+        given = first + before + procedures + "\n"
+        more = f"{wanted} is expected here: a bracket is missing or too many {within} procedure {number}, which begins at column {len(first) + start}"
+        reports_more(sgt, ["script"], given, "line 1: not JSON\n", f"column {len(first) + len(before) + column}: {more}\n")
+    # Errors elsewhere, and those that only the end of the line shows.
+    for line, more in (
+        ('{"limits":[1,1]],"accounts":[],"procedures":[]}', "column 16: not JSON from here: an object ends in }"),
+        ('{"limits":[1,1],"accounts":[],"procedures":[]]}', "column 46: not JSON from here: an object ends in }"),
+        ('{"limits":[1,1],"accounts":[[1,2,3,4},"procedures":[[0,[]]]}', "column 37: not JSON from here: a list ends in ]"),
+        ('{"limits":[1,1],"accounts":[],"procedures":[[0,[["ask",2,]]]]}', "column 58: not JSON from here: nothing stands after the comma"),
+        ('{"limits":[1,1],"accounts":[],"procedures":[[0,[["ask",2]]]]', f"column 61: {GOES_ON}"),
+    ):
+        reports_more(sgt, ["script"], f"{line}\n", "line 1: not JSON\n", f"{more}\n")
 
 
 def explains_procedures_past_their_sizes(sgt):
@@ -886,12 +1101,12 @@ def explains_procedures_past_their_sizes(sgt):
         (['["answer",1]'] * 10, 7, "at 1 8: a path has answer 9 here, and at most 8 may be"),
         ([branches] * 5, 7, "at 1 4 2 0: a path has answer 9 here, and at most 8 may be"),
     ):
-        given = opening(procedures=f"[0,[{','.join(statements)}]]")
-        reports_more(sgt, ["script"], given, f"line 1: procedure 5 flaw {fault}\n", f"procedure 5, {more}\n")
+        procedure = f"[0,[{','.join(statements)}]]"
+        reports_more(sgt, ["script"], opening(procedures=procedure), f"line 1: procedure 5 flaw {fault}\n", of_procedure(procedure, more))
 
 
 def explains_the_place_of_each_shape_error_and_flaw(sgt):
-    """A second line comes of each of the tables above, and names the position of a shape error."""
+    """A second line comes of each of the tables above, and names the position of a shape error, and the column of that or a flaw."""
     for table in (PLACES, NO_ROW, OTHER_KINDS, DEEP_BLOCKS, FIRST_SHAPE_ERROR, PAST_RANGES, ENDS_OF_RANGES, EACH_WAY, FLAWS):
         for wanted, text in rows(table):
             if wanted == "no flaw":
@@ -900,7 +1115,9 @@ def explains_the_place_of_each_shape_error_and_flaw(sgt):
             first, second = reported.splitlines()
             place = wanted.removeprefix("shape ") if wanted.startswith("shape") else ""
             same(text, f"line 1: procedure 5 {wanted}", first)
-            same(text, f"procedure 5, at {place}", second[: len(f"procedure 5, at {place}")])
+            more = second.partition(" procedure 5, ")[2]
+            same(text, f"at {place}", more[: len(f"at {place}")])
+            same(text, of_procedure(text, more), f"{second}\n")
 
 
 def explains_lines(sgt):
@@ -914,8 +1131,8 @@ def explains_records(sgt):
     first = opening("[4,9]", "[[1,101,500,1000]]") + '\n["record",4,7,8]\n'
     for table, fault in ((EXPLAINED_RECORDS, "bad record"), (EXPLAINED_NO_RECORDS, "bad line")):
         for line, more in table:
-            for command in ("script", "bank"):
-                reports_more(sgt, [command], f"{first}{line}\n", f"line 3: {fault}\n", f"{more}\n")
+            for command, starts in (("script", FIRST_WORDS), ("bank", A_JOB)):
+                reports_more(sgt, [command], f"{first}{line}\n", f"line 3: {fault}\n", f"{more.replace('{starts}', starts)}\n")
 
 
 def explains_records_after_others(sgt):
@@ -925,6 +1142,7 @@ def explains_records_after_others(sgt):
             ('["record",3,1,1]', f"records stand before the first {what}"),
             ('["record",8,1,1]', f"records stand before the first {what}"),
             ('["record",3]', 'expected ["record",table,number,value], found ["record",3]'),
+            ('["record",3,1,@"1"]', 'expected a whole number of at most 15 digits as the value, found "1"'),
         ):
             given = f"{opening('[4,9]')}\n{before}\n{line}\n"
             reports_more(sgt, [command], given, "line 3: bad line\n", f"{more}\n")
@@ -933,19 +1151,69 @@ def explains_records_after_others(sgt):
 def explains_lines_of_no_json(sgt):
     deep = b"[" * 130
     for line, more in (
-        (b"", "column 1: the line is empty"),
-        (b" \r", "column 1: the line is empty"),
+        (b"", "column 1: the line is empty: leave it out"),
+        (b" \r", "column 1: the line is empty: leave it out"),
         (b"\xef\xbb\xbf[]", "column 1: a byte order mark: save the input without it"),
-        (b'["step",0', "column 10: the line ends where its JSON has to go on"),
-        (b'["step",0]]', "column 11: not JSON from here"),
-        (b"step 0", "column 1: not JSON from here"),
+        (b'["step",0', f"column 10: {GOES_ON}"),
+        (b'["step",0]]', "column 11: not JSON from here: the JSON of this line ends before it"),
+        (b'["step",0] ["step",0]', f"column 12: not JSON from here: {ENDS}: {OWN_LINE}"),
+        (b'["step",0] # go', f"column 12: not JSON from here: {ENDS}: there are no comments"),
+        (b'["step",0]// go', f"column 11: not JSON from here: {ENDS}: there are no comments"),
+        (b'["step",0, ]', "column 12: not JSON from here: nothing stands after the comma"),
+        (b'["step" 0]', "column 9: not JSON from here: a comma is missing before it"),
+        (b'["step",,0]', "column 9: not JSON from here: nothing stands before the comma"),
+        (b'["step";0]', "column 8: not JSON from here: a comma separates the items of a list"),
+        (b'("step",0)', "column 1: not JSON from here: a list stands in square brackets"),
+        *((b'["start",0,[%s]]' % number, f"column 13: not JSON from here: {NUMBERS}") for number in (b"0x10", b"1_000", b"01", b"+1", b".5", b"-", b"-x")),
+        (b'["start",5,[1,2}]', "column 16: not JSON from here: a list ends in ]"),
+        (b'["step",0}', "column 10: not JSON from here: a list ends in ]"),
+        (b'{"step":[0]],"at":1}', "column 12: not JSON from here: an object ends in }"),
+        (b"step 0", "column 1: not JSON from here: a word stands in double quotes"),
+        (b"['step',0]", "column 2: not JSON from here: a text stands in double quotes"),
+        (b"[\xe2\x80\x9cstep\xe2\x80\x9d,0]", "column 2: not JSON from here: a text stands in plain double quotes, as \"step\""),
+        (b"# a step", "column 1: not JSON from here: there are no comments"),
+        (b"// a step", "column 1: not JSON from here: there are no comments"),
         (b'["step",\xff]', "column 9: not UTF-8 from here"),
-        (b'["\xc3\xa9",nil]', "column 7: not JSON from here"),
-        (deep, "column 129: lists and objects are more than 127 deep"),
+        (b'["\xc3\xa9",nil]', "column 7: not JSON from here: a word stands in double quotes"),
+        (deep, "column 128: lists and objects are more than 127 deep"),
+        (b"[" * 128 + b"]" * 128, "column 128: lists and objects are more than 127 deep"),
     ):
         for command, before in (("script", b'["step",0]\n' * 3), ("bank", b'["job",0,[]]\n' * 3)):
             given = opening("[4,9]").encode() + b"\n" + before + line + b"\n" + before
             reports_more(sgt, [command], given, "line 5: not JSON\n", f"{more}\n")
+
+
+def explains_the_first_wrong_character(sgt):
+    """Its column, on line 1 and on a later one."""
+    for line, column, more in FIRST_WRONG:
+        more = f"not JSON from here: {more}" if more else "the text that begins here has no closing quote"
+        for number, before in ((1, ""), (2, opening("[4,9]") + "\n")):
+            reports_more(sgt, ["script"], f"{before}{line}\n", f"line {number}: not JSON\n", f"column {column}: {more}\n")
+
+
+def finds_the_first_wrong_character_of_drawn_lines(sgt):
+    """Where the reader of JSON here does; but a wrong number begins before its wrong character."""
+    dice = random.Random(74)
+    signs = "[]{}\",:;=ax1 -.\\'#("
+    for _ in range(400):
+        line = list(dice.choice(('["job",5,[1,2]]', '["start",0,[1]]', '["write",0,3,1,-8]', '{"limits":[4,1000],"accounts":[[1,101,5,5],[2,102,5,5]]}')))
+        for _ in range(dice.choice((1, 1, 2))):
+            place = dice.randrange(len(line))
+            line[place:place + dice.choice((0, 1))] = dice.choice(("", dice.choice(signs)))
+        line = "".join(line)
+        try:
+            json.loads(line)
+            continue
+        except json.JSONDecodeError as error:
+            wanted = error.colno
+        if line.startswith("{:"):
+            continue  # said to be EDN
+        status, out, reported = sgt.run("script", given=f"{opening('[4,9]')}\n{line}\n")
+        first, second = reported.splitlines()
+        found = re.fullmatch("column ([0-9]+): (.+)", second)
+        same(line, (2, "", "line 2: not JSON"), (status, out, first))
+        if not found[2].endswith(NUMBERS):
+            same(f"{line}: {second}", wanted, int(found[1]))
 
 
 def explains_no_opening_and_a_long_line(sgt):
@@ -953,6 +1221,7 @@ def explains_no_opening_and_a_long_line(sgt):
     for command in (["script"], ["bank"]):
         reports_more(sgt, command, "", "line 1: no opening\n", "the input is empty\n")
         reports_more(sgt, command, long, "line 2: long line\n", "a line has at most 65536 bytes\n")
+        reports_more(sgt, command, "x" * (LONGEST_LINE + 1), "line 1: long line\n", f"a line has at most 65536 bytes: {ACCOUNTS_AS_RECORDS}\n")
 
 
 def says_how_to_go_on_from_what_is_too_long(sgt):
@@ -1425,8 +1694,11 @@ CASES = [
     takes_procedures_up_to_their_sizes,
     takes_spaces_and_escapes,
     explains_openings,
+    explains_the_first_wrong_character,
+    finds_the_first_wrong_character_of_drawn_lines,
     explains_too_few_for_the_workers,
     explains_procedures,
+    explains_brackets,
     explains_procedures_past_their_sizes,
     explains_the_place_of_each_shape_error_and_flaw,
     explains_lines,

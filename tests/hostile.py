@@ -45,7 +45,7 @@ BANK = ("bank", "--workers", "1")
 
 
 # The allocations without which the program may succeed: one while the options are parsed, that in which the rows of the opening are
-# sorted (they are then sorted in place), and that in which the newest lines are stored.
+# sorted (they are then sorted in place), and that in which line 1 is copied.
 DONE_WITHOUT = 3
 
 
@@ -77,13 +77,14 @@ def fails_each_allocation_of_a_script_with_cuts(sgt):
 
 
 FLAWED = OPENING.replace("[]}", '[[1,[["let",0,["arg",1]]]]]}')
+FLAWED_AT = FLAWED.index(',1]]]]]}') + 2
 
 # What runs, its replies, its error, and the second line.
 FAULTY = (
-    (("script",), SCRIPT + '["stop",0]\n', REPLIES, "line 13: bad line\n", 'unknown word "stop"\n'),
-    (("script",), FLAWED, "", "line 1: procedure 5 flaw 3\n", "procedure 5, at 1 0 2 1: argument 1 is not below 1, the number of arguments\n"),
+    (("script",), SCRIPT + '["stop",0]\n', REPLIES, "line 13: bad line\n", 'unknown word "stop": a line starts with start, step, commit, quit (abort), begin, read, write, remove or cut; before the first of these, with record\n'),
+    (("script",), FLAWED, "", "line 1: procedure 5 flaw 3\n", f"column {FLAWED_AT}: procedure 5, at 1 0 2 1: argument 1 is not below 1, the number of arguments\n"),
     (("script",), OPENING + '["record",1,101,7]\n', "", "line 2: bad record\n", "record 1/101 is there already\n"),
-    (BANK, JOBS + '["job",0,[\n', "", "line 5: not JSON\n", "column 11: the line ends where its JSON has to go on\n"),
+    (BANK, JOBS + '["job",0,[\n', "", "line 5: not JSON\n", "column 11: the line ends where its JSON has to go on: each line is a JSON text of its own\n"),
 )
 
 

@@ -163,6 +163,7 @@ def reads_writes_and_removes_in_python(_):
         same("its record", 12, bank.get(TABLE, 101))
         same("who is live", [], bank.live())
         bank.cut()
+        same("the third of the limits", 1, bank.limits()[2])
         same("the accesses of another part", "stale", what(sgt.Stale, lambda: bank.accesses(ticket), "stale"))
 
 
@@ -177,6 +178,7 @@ def answers_single_calls_in_python(_):
     sgt = module()
     Asked, Event, Kind = sgt.Asked, sgt.Event, sgt.Kind
     with sgt.Engine(limits=(4, 100, 1), rows=[(TABLE, 101, 10)]) as engine:
+        same("the limits", (4, 100, 1), engine.limits())
         tid, other = engine.begin().tid, engine.begin().tid
         same("who is live", [tid, other], engine.live())
         same("an abort", Kind.ABORTED, engine.quit(other).kind)

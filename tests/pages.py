@@ -348,7 +348,7 @@ LIMITS = [
     ("sgt_workers/src/bank.rt", "MOST_WORKERS", "docs/FORMATS.md", "W is from 1 to {}"),
     ("sgt_workers/src/bank.rt", "MOST_TRIES", "docs/FORMATS.md", "from 1 to {} (default 100)"),
     ("sgt_notation/src/spelled.rt", "LONGEST_ITEM", "docs/FORMATS.md", "1 to {} bytes"),
-    ("sgt_line_errors/src/json_text.rt", "DEEPEST", "docs/FORMATS.md", "one another | {};"),
+    ("sgt_line_errors/src/grammar.rt", "DEEPEST", "docs/FORMATS.md", "one another | {};"),
     ("sgt_line_errors/src/excerpt.rt", "LONGEST", "docs/FORMATS.md", "at most {} characters"),
     ("sgt_timeline/src/drawn.rt", "MOST", "docs/FORMATS.md", "more than {} operations"),
     ("sgt_check/src/checked.rt", "SCREEN", "docs/FORMATS.md", "more than {} operations"),

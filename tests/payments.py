@@ -6,15 +6,18 @@
 It runs the server as a user does, with the library of `bindings/out`, which has to be made: the replies; a crash under load, ROUNDS
 times (30), or one of its front processes, with what no fsync had kept taken away or garbled; a journal cut at each byte and with a flipped
 bit in each, and one with a damaged tail, or without its newest file; a full disk; an fsync that fails; large snapshots, and one that fails;
-cuts while the server goes on; a clock that jumps; other procedures; a forged journal; clients that vanish, or ask nothing; what administrators
-ask; holds, statements, ids that are forgotten, lists of requests, tokens and TLS; and failovers over etcd, Redis and PostgreSQL, where the
-machine has them, also of hosts that are cut off. Each case is reported, and the last line counts them. With names of cases only those run.
+cuts while the server goes on; a clock that jumps; other procedures; a forged journal; clients that vanish, are slow, or ask nothing; what
+administrators ask; holds, statements, ids that are forgotten, lists of requests, tokens and TLS; payments between partitions, also simulated
+ones; and failovers over etcd, Redis and PostgreSQL, where the machine has them, also of hosts that are cut off. Each case is reported, and the
+last line counts them. With names of cases only those run.
 """
 
 import ast
 import contextlib
 import hashlib
 import json
+import marshal
+import multiprocessing
 import os
 import pathlib
 import random
@@ -30,6 +33,8 @@ import sys
 import tempfile
 import threading
 import time
+import types
+from unittest import mock
 
 sys.dont_write_bytecode = True
 from helpers.cases import C_SOURCES, TESTS, Differs, same, run_cases  # noqa: E402
@@ -37,15 +42,17 @@ from helpers.machines import Etcd, Hosts, Postgres, Redis, free_ports, python_wi
 
 PAYMENTS = TESTS.parent / "examples" / "payments"
 ADJUSTING = str(TESTS / "helpers" / "noting_fsync.py")
-sys.path.insert(0, str(PAYMENTS))
+sys.path[:0] = [str(PAYMENTS), str(TESTS.parent / "bench" / "payments")]
 import partitions as partition  # noqa: E402
 from audit import ask  # noqa: E402
-from bank import ROW, Unusable, load_procedures  # noqa: E402
+from bank import OUTCOME, ROW, Bank, Unusable, load_procedures  # noqa: E402
 from chain import Chain, seal_batch  # noqa: E402
 from file_journal import FileJournal  # noqa: E402
-from front import FRONTS, OTHER_FILES  # noqa: E402
-from journal import Store, unseal  # noqa: E402
-from lines import LONGEST  # noqa: E402
+from front import AT_ONCE, FRONTS, OTHER_FILES, PART, Front  # noqa: E402
+from hundred_partitions import SHARES, Simulation, accounts_of, partition_of  # noqa: E402
+from journal import Store, store, unseal  # noqa: E402
+from lines import LONGEST, Reader  # noqa: E402
+from sgt import Kind, pack_calls, unpack_calls  # noqa: E402
 
 SECONDS = 600  # of a command, a reply or an end: what comes takes less on any machine
 PROCEDURES = {name: it.text for name, it in load_procedures(PAYMENTS / "procedures").items()}
@@ -331,6 +338,27 @@ def holds():
     return f"{len(wanted) + len(notes)} replies"
 
 
+def owing():
+    """An account that owes, as one between partitions may, is there: it is paid, and holds are made for it, but it can't pay, nor be opened again."""
+    with scratch() as folder, Server("serve", folder / "j", "--accounts", 4) as server:
+        between, much = partition.CLEARING + 1, "the payer does not have that much"
+        same("an account", {"open": between, "opened": True, "has": 0}, ask(folder / "j" / "admin", "open", between, amount=0))
+        wanted = [
+            ({"credit": 1, "from": between, "to": 1, "amount": 500}, {"credit": 1, "credited": True, "to_has": 100_500}),
+            ({"balance": between}, {"balance": between, "has": -500}),
+            ({"hold": 2, "from": 2, "to": between, "amount": 100}, {"hold": 2, "held": True, "from_has": 99_899}),
+            ({"capture": 2, "to": between}, {"capture": 2, "captured": True, "to_has": -400}),
+            (pay(3, 2, between, 100), {"id": 3, "paid": True, "from_has": 99_798, "to_has": -300}),
+            (pay(4, between, 2, 1), {"id": 4, "refused": much}),
+            ({"hold": 5, "from": between, "to": 2, "amount": 1}, {"hold": 5, "refused": much}),
+            ({"credit": 6, "from": 1, "to": between, "amount": 100}, {"credit": 6, "refused": "there is no such payee, or it owes"}),
+            ({"hold": 7, "from": 2, "to": 9, "amount": 1}, {"hold": 7, "refused": "there is no such payee"}),
+            ({"credit": 8, "from": 1, "to": 9, "amount": 1}, {"credit": 8, "refused": "there is no such payee, or it owes"}),
+        ]
+        asked(server, wanted)
+        same("an account again", "there is such an account already", ask(folder / "j" / "admin", "open", between, amount=0)["refused"])
+
+
 def statements():
     """The payments of each account, newest first, by pages; no refused one."""
     draw, own = random.Random(14), {account: [] for account in range(1, 5)}
@@ -383,6 +411,30 @@ def forgotten():
         same("verify", 0, run("verify", folder / "j")[0])
 
 
+def removals():
+    """What is forgotten are only records that are there, as the engine keeps the key of any other until a cut; and all of what is not held."""
+    opened = [(1, account, 1_000_000) for account in range(5)]
+    bank, day = Bank(0, PROCEDURES, b"".join(ROW.pack(*row) for row in opened)), 20_000
+    calls = [("day", day), ("pay", 1, 1, 2, 100), ("pay", 2, 1, 2, 10**7), ("hold", 3, 1, 2, 100), ("hold", 4, 1, 2, 100), ("capture", 4, 2)]
+    calls += [("hold", 5, 1, 2, 100), ("void", 5, 2), ("pay", 6, 1, 2, 100), ("refund", 6, 2), ("hold", 7, 1, 2, 100), ("capture", 7, 2), ("refund", 7, 2)]
+    calls += [("pay", 8, 2, 3, 100), ("note", 8, 2, -1, 0), ("credit", 9, 1, 2, 100), ("credit", 10, 1, 9, 100), ("hold", 11, 1, 2, 10**7), ("pay", 12, 4, 3, 7)]
+    calls += [("note", 9, 1, 1, 1), ("set_day", day + 1), ("set_day", day + 91), *[("forget",)] * 12]
+    bank.replay(calls)
+    there, forgets, missing = {row[:2] for row in opened}, set(), []
+    for place in range(len(bank.engine)):
+        event, reply = bank.engine.entry(place)
+        if event.procedure == bank.numbers["forget"]:
+            forgets.add(reply.tid)
+        if reply.kind == Kind.WROTE:
+            record = reply.table, reply.number
+            missing += [record] if reply.value is None and event.tid in forgets and record not in there else []
+            (there.discard if reply.value is None else there.add)(record)
+    same("records that are removed, and were not there", [], missing)
+    same("the payments of which something is left", {3}, {abs(number) for table, number in there if 2 <= table <= 6})
+    same("what was spent", set(), {number for table, number in there if table == 7})
+    same("the refusal when nothing is left", [], bank.run(pack_calls([(bank.numbers["forget"],)]), ["forget"])[1])
+
+
 def lists():
     """A line may be a list of requests, which is answered by a list, in order; each request is a transaction of its own."""
     with scratch() as folder, Server("serve", folder / "j", "--accounts", 3) as server:
@@ -416,7 +468,7 @@ def tokens():
             same("a clerk", [yes, {"balance": 3, "has": 100_005}, no, no], server.ask({"token": "clerk"}, {"balance": 3}, {"balance": 1}, gift))
             same("a token that is lost", [yes, no, no], server.ask({"token": "shop"}, {"token": "x"}, {"balance": 1}))
             same("an administrator", {"balance": 4, "has": 100_000}, ask(folder / "j" / "admin", "balance", 4))
-        for bad in ("[]", "{", '{"x": null}', '{"x": {"pay": [[1]]}}', '{"x": {"pay": [["a", "b"]]}}'):
+        for bad in ("[]", "{", '{"x": null}', '{"x": {"pay": [[1]]}}', '{"x": {"pay": [["a", "b"]]}}', '{"x": {"pay": [["1", "2"]]}}', '{"x": {"pay": ["12"]}}'):
             file.write_text(bad)
             status, _, error = run("serve", folder / "j", "--tokens", file)
             if status != 1 or "no file of tokens" not in error:
@@ -848,14 +900,48 @@ def large_snapshots():
         words = ("serve", folder / "j", "--accounts", ACCOUNTS, "--cents", CENTS, "--keep")
         small = adjusted(CUT_AFTER=4000, SHORT_WRITE=1000, **preloaded(folder, "short_write"))
         with Server(*words, **small) as server:
-            load.run(server, until=lambda: load.replies >= 2_000)
+            load.run(server, until=lambda: load.replies >= 2_000 and largest(folder / "j") > 20_000)
             server.process.kill()
         load.judge(*recovered(folder / "j")[:2])
         same("verify", 0, run("verify", folder / "j")[0])
-        largest = max(path.stat().st_size for path in (folder / "j").glob("*.snapshot"))
-    if largest < 20_000:
-        raise Differs(f"the largest snapshot has only {largest} bytes")
-    return f"the largest has {largest} bytes"
+        return f"the largest has {largest(folder / 'j')} bytes"
+
+
+def largest(folder):
+    """The bytes of the largest snapshot."""
+    return max((path.stat().st_size for path in folder.glob("*.snapshot")), default=0)
+
+
+def pieces():
+    """A large file becomes safe in pieces: a batch that becomes safe meanwhile waits for one of them at most."""
+    sizes, whole, piece = [0], 30_000_000, 10_000_000
+
+    def fsync(file):
+        sizes.extend([] if isinstance(file, int) else [os.fstat(file.fileno()).st_size])
+
+    with scratch() as folder, mock.patch("os.fsync", fsync):
+        store(folder / "file", b"head", bytes(whole))
+        same("the file", (4 + whole, ["file"]), ((folder / "file").stat().st_size, names_in(folder)))
+    same("its length at the last fsync", 4 + whole, sizes[-1])
+    if max(later - sooner for sooner, later in zip(sizes, sizes[1:])) > piece:
+        raise Differs(f"it became safe at these lengths: {sizes}")
+
+
+def deletions():
+    """No batch waits for the deletion of a file, which takes long if the file is large: another thread deletes it."""
+    unlink, deletes = pathlib.Path.unlink, []
+
+    def noted(path, missing_ok=False):
+        deletes.extend([threading.current_thread() is threading.main_thread()] if path.suffix == ".batches" else [])
+        unlink(path, missing_ok)
+
+    with scratch() as folder, mock.patch.object(pathlib.Path, "unlink", noted):
+        journal = FileJournal(folder)
+        journal.lead()
+        journal.append(1, seal_batch(1, 0, ['["day", 5]']))
+        journal.stored("test", 1, 2)
+        wait_until(lambda: names_in(folder) == ["000000000000002.batches", "newest"], "a file that is deleted")
+        same("whether the thread that appends has deleted it", [False], deletes)
 
 
 def failed_snapshot():
@@ -878,15 +964,29 @@ def failed_snapshot():
             resource.prlimit(server.process.pid, resource.RLIMIT_FSIZE, limits)
             pay_some(server)
             wait_until(lambda: ask(admin, "health")["health"] == "ok", "a snapshot")
-            (snapshot,), (*older, newest) = (sorted((folder / "j").glob(f"*.{kind}")) for kind in ("snapshot", "batches"))
+            (snapshot,), (*_, newest) = (sorted((folder / "j").glob(f"*.{kind}")) for kind in ("snapshot", "batches"))
             first = folder / "j" / "000000000000001.batches"
-            same("the files", sorted([snapshot.name, *[it.name for it in older], newest.name, "admin", "newest"]), names_in(folder / "j"))
             # If no batch came while the snapshot was stored, none of the first file is needed.
-            same("older files", [first] if int(newest.stem) > int(snapshot.stem) + 1 else [], older)
+            older = [first] if int(newest.stem) > int(snapshot.stem) + 1 else []
+            wanted = sorted(it.name for it in (snapshot, *older, newest, folder / "admin", folder / "newest"))
+            wait_until(lambda: names_in(folder / "j") == wanted, f"the files {wanted}")
             same("whether it goes on in the new file", True, int(snapshot.stem) < int(newest.stem) <= ask(admin, "health")["batch"] + 1)
             wait_until(lambda: pay_some(server) or not first.exists(), "a file of which no batch is needed that is deleted")
             server.process.kill()
         same("the payments", [(it["id"], it["from_has"], it["to_has"]) for it in paid], payments_in(folder / "j"))
+
+
+def little_space():
+    """A snapshot that would take most of what is free on the disk is not begun, as the journal may need that."""
+    rows = b"".join(ROW.pack(1, account, CENTS) for account in range(ACCOUNTS))
+    bank = Bank(0, PROCEDURES, rows)
+    with scratch() as folder:
+        for free, wanted in ((3 * len(rows) // 2 - 1, r"no snapshot .*\.snapshot: it would take most of .*"), (3 * len(rows) // 2, "")):
+            with mock.patch("shutil.disk_usage", return_value=types.SimpleNamespace(free=free)):
+                reported = Store(folder).save(1, bank)
+            if not re.fullmatch(wanted, reported):
+                raise Differs(f"with {free} bytes free: {reported}")
+            same("the files", [] if wanted else ["000000000000001.snapshot"], names_in(folder))
 
 
 def renewals():
@@ -929,6 +1029,19 @@ def renewals():
                 wait_until(lambda: not pathlib.Path(f"/proc/{copy}").exists(), "a copy that has ended")  # noqa: B023
             load.judge(*recovered(folder / "j")[:2])
     return f"{len(load.acknowledged)} acknowledged, {many} of them while the first snapshot was stored"
+
+
+def huge_pages():
+    """The server has memory come in huge pages, of which a cut has fewer to copy, unless its user has said how memory is to come."""
+    with scratch() as folder:
+        for given, wanted in (({}, b"glibc.malloc.hugetlb=1"), ({"GLIBC_TUNABLES": "glibc.malloc.perturb=0"}, b"glibc.malloc.perturb=0")):
+            env = {name: value for name, value in os.environ.items() if name != "GLIBC_TUNABLES"} | given
+            process = subprocess.Popen([sys.executable, PAYMENTS / "payments.py", "serve", folder / "j"], stdout=subprocess.PIPE, text=True, env=env)
+            process.stdout.readline()
+            found = pathlib.Path(f"/proc/{process.pid}/environ").read_bytes().split(b"\0")
+            process.kill()
+            process.communicate(timeout=SECONDS)
+            same("what its environment says", [b"GLIBC_TUNABLES=" + wanted], [it for it in found if it.startswith(b"GLIBC_TUNABLES=")])
 
 
 def begun_snapshots():
@@ -1069,7 +1182,7 @@ def bad_procedures():
     files = [
         ('{"procedure": [', "JSONDecodeError"),
         ({"request": ["gift"]}, "KeyError: 'procedure'"),
-        ({"request": ["gift"], "procedure": [1, [look, ["puts", 1, 2, 3]]]}, 'procedure 0, at 1 1: unknown word "puts"'),
+        ({"request": ["gift"], "procedure": [1, [look, ["puts", 1, 2, 3]]]}, 'procedure 0, at 1 1: unknown word "puts": a statement starts with look, find, put, remove, let, ask, if or answer'),
         ({"request": ["gift"], "procedure": [1, [["look", 99, 1, ["arg", 0], 1]]]}, "at 1 0 1: register 99 is over 15"),
         ({"request": ["gift", "amount"], "procedure": [1, [look]]}, "the request has 2 keys, and the procedure takes 1 arguments"),
         ({"request": ["gift"], "refused": {"one": "x"}, "procedure": [1, [look]]}, "ValueError"),
@@ -1152,6 +1265,76 @@ def vanished_clients():
         load.judge(*recovered(folder / "j")[:2])
     same("clients that vanished", 4 * CLIENTS, load.gone)
     return f"{load.gone} of them, {len(load.acknowledged)} acknowledged"
+
+
+@contextlib.contextmanager
+def front_alone():
+    """What a front process does, in this process; the server's end of its connection; and where it listens."""
+    procedures = load_procedures(PAYMENTS / "procedures")
+    own, server = multiprocessing.Pipe()
+    with socket.create_server(("127.0.0.1", 0)) as listener:
+        front = Front([listener], own, Reader(procedures, None, False), 60, None)
+        front.numbers = {name: number for number, name in enumerate(procedures)}
+        front.poll.register(listener, select.EPOLLIN)
+        yield front, server, listener.getsockname()
+    own.close()
+
+
+def leaving_clients():
+    """A client that sends nothing more while its front waits for other lines has its reply. One that is gone by then has none, and nobody else has it."""
+    with front_alone() as (front, server, address):
+        front.asked, front.until = 3, time.monotonic() + SECONDS
+        turn = threading.Thread(target=front.turn)
+        turn.start()
+        with socket.create_connection(address, timeout=SECONDS) as first, socket.create_connection(address) as gone:
+            first.sendall(b'{"balance":1}\n')
+            first.shutdown(socket.SHUT_WR)
+            gone.sendall(b'{"balance":2}\n')
+            gone.close()
+            wait_until(lambda: not select.select([first], (), (), 0.5)[0], "a front that waits")
+            with socket.create_connection(address, timeout=SECONDS) as last:
+                last.sendall(b'{"balance":3}\n')
+                calls = unpack_calls(marshal.loads(server.recv_bytes())[0])
+                same("the calls", [(front.numbers["balance"], account) for account in (1, 2, 3)], sorted(calls))
+                outcomes = [OUTCOME.pack(Kind.COMMITTED, 0, 1, 10 * account, *[0] * 7) for _, account in calls]
+                server.send_bytes(b"".join(outcomes) + marshal.dumps(([], "")))
+                turn.join()
+                for number, client in ((1, first), (3, last)):
+                    same(f"the reply to client {number}", b'{"balance": %d, "has": %d}\n' % (number, 10 * number), client.recv(1000))
+
+
+def slow_clients():
+    """A client that takes its replies late, and little at a time, has all of them, however many it has asked for. Nobody waits for it."""
+    request, reply, count = b'{"balance":1}\n', b'{"balance": 1, "has": 100000}\n', 5_000
+    with scratch() as folder, Server("serve", folder / "j", "--accounts", 3) as server, socket.socket() as client:
+        client.setsockopt(socket.SOL_SOCKET, socket.SO_RCVBUF, 4096)
+        client.setsockopt(socket.IPPROTO_TCP, socket.TCP_MAXSEG, 536)  # as over a network, where little is on its way
+        client.settimeout(SECONDS)
+        client.connect(("127.0.0.1", server.port))
+        sends = threading.Thread(target=client.sendall, args=(request * count,))
+        sends.start()
+        for _ in range(50):
+            same("what another client has", [{"balance": 2, "has": 100_000}], server.ask({"balance": 2}))
+        with client.makefile("rb") as replies:
+            same("replies", count, sum(line == reply for line in (replies.readline() for _ in range(count))))
+        sends.join()
+        same("the end", (0, ""), server.end())
+
+
+def many_lines():
+    """Clients that send very much at once are heard in parts: what a front has in memory has a limit."""
+    part, count = b'{"balance":1}\n' * 4_000, 2 * AT_ONCE
+    with front_alone() as (front, _, address), contextlib.ExitStack() as stack:
+        for _ in range(count):
+            client = stack.enter_context(socket.create_connection(address))
+            wait_until(lambda: front.accept(front.listeners[0]), "a client that is accepted")
+            threading.Thread(target=client.sendall, args=(part,), daemon=True).start()
+        wait_until(lambda: len(select.select([it.link for it in front.clients.values()], (), (), 0)[0]) == count, "lines of all clients")
+        asked = front.wait()
+        lines = sum(len(it) for _, it in asked)
+        if not 0 < lines <= AT_ONCE * PART / len(b'{"balance":1}'):
+            raise Differs(f"the front has {lines} lines in memory")
+    return f"{lines} of {count * 4_000} lines are heard at once"
 
 
 def is_dropped(client):
@@ -1587,6 +1770,39 @@ def between_partitions():
     return f"{kills} kills; {early} of {kinds[1]} payments were paid or refused at once, {kinds[0]} between partitions"
 
 
+def figures_of_page(first):
+    """The figures of a row of the page, which begins with this."""
+    (row,) = re.findall(rf"^\| {first} \| ([\d,]+(?: \| [\d,]+)*) \|$", (PAYMENTS / "README.md").read_text(), re.MULTILINE)
+    return [int(figure.replace(",", "")) for figure in row.split(" | ")]
+
+
+def about(what, wanted, came):
+    """Whether figures differ by no more than a tenth."""
+    if len(wanted) != len(came) or any(abs(has - must) > must / 10 for must, has in zip(wanted, came)):
+        raise Differs(f"{what}: wanted about {wanted}, came {came}")
+
+
+def hundred_partitions():
+    """The simulation of many partitions: the money is as the replies have it, also where servers and clients die; and its figures are those of the page."""
+    deadly = Simulation(100, 0.5, 2, 0.02, dies=0.02)
+    deadly.run()
+    same("where the money is not as the replies have it", {}, deadly.wrong())
+    kinds = [sum(kind in it.reply for it in deadly.payments) for kind in ("paid", "refused")]
+    same("payments without a reply", len(deadly.payments), sum(kinds))
+    if min(*kinds, deadly.deaths) < 10:
+        raise Differs(f"only {kinds} payments were paid and refused, and {deadly.deaths} servers died")
+    one = [Simulation(1, 0, clients, 0.1, way=25).run()[0] for clients in (1, 8, 64)]
+    about("payments a second of one server", figures_of_page("this server"), one)
+    two = [Simulation(2, share, 64, 0.05) for share in SHARES]
+    about("payments a second of two partitions", figures_of_page("2"), [it.run()[0] for it in two])
+    hundred = Simulation(100, SHARES[2], 64, 0.01)
+    about("payments a second of a hundred", figures_of_page("100")[2:3], [hundred.run()[0]])
+    same("where the money is not as the replies have it", [{}] * 6, [it.wrong() for it in (*two, hundred)])
+    refused = [payment.words for it in (deadly, *two, hundred) for payment in it.payments if "refused" in payment.reply]
+    same("refused payments to who is there", [], [it for it in refused if it[2] in accounts_of(partition_of(it[2]))])
+    return f"{deadly.deaths} deaths of servers, {kinds[0]} payments, each paid once; {len(hundred.payments)} without deaths"
+
+
 def over_redis():
     """As over etcd."""
     return failover(Redis)
@@ -1615,6 +1831,28 @@ def forgetful_postgresql():
     with scratch() as folder, running(Postgres, folder, "-c fsync=off") as journal:
         wanted = "payments: PostgreSQL: it must run with fsync on\n"
         same("a start", (1, "", wanted), run("serve", folder / "j", "--journal", journal.address, python=journal.python))
+
+
+def postgresql_standby():
+    """While a synchronous standby is away nothing is acknowledged, and clients wait, until nobody waits for it any more."""
+    if why := Postgres.missing():
+        return f"left out: {why}"
+    with scratch() as folder, running(Postgres, folder) as journal:
+        with Server("serve", folder / "j", "--journal", journal.address, python=journal.python, **adjusted(**NEVER)) as server:
+            journal.command("alter system set synchronous_standby_names = 'away'")
+            for number in range(1, SECONDS):  # PostgreSQL may take a moment to wait for it
+                with server.connect() as client:
+                    client.settimeout(1)
+                    client.sendall(json.dumps(pay(number, 1, 2, 5)).encode() + b"\n")
+                    with contextlib.suppress(socket.timeout):
+                        client.recv(1)
+                        continue
+                    journal.command("alter system reset synchronous_standby_names")
+                    client.settimeout(SECONDS)
+                    reply = json.loads(client.makefile().readline())
+                    same("the reply that came then", {"id": number, "paid": True}, {key: reply[key] for key in ("id", "paid")})
+                    return
+    raise Differs("a payment was acknowledged, and the standby is away")
 
 
 def redis_replicas():
@@ -1668,12 +1906,12 @@ def main():
         return nodes_die(rounds, seed)
 
     crash_test.__name__, dying_nodes.__name__ = "crashes", "nodes_die"
-    cases = [sizes, replies, holds, statements, forgotten, lists, tokens, tls, second_server, between_partitions, administration]
+    cases = [sizes, replies, holds, owing, statements, forgotten, removals, lists, tokens, tls, second_server, between_partitions, hundred_partitions, administration]
     cases += [torn_tails, damaged_tails, damage, newest_file_gone, forged_journal]
-    cases += [full_disk, failing_fsync, large_snapshots, failed_snapshot, renewals, begun_snapshots]
+    cases += [full_disk, failing_fsync, large_snapshots, pieces, deletions, failed_snapshot, little_space, renewals, huge_pages, begun_snapshots]
     cases += [jumping_clock, other_procedures, bad_procedures]
-    cases += [killed_fronts, vanished_clients, idle_clients]
-    cases += [over_etcd, dying_nodes, ended_while_away, partitions, over_redis, forgetful_redis, redis_replicas, over_postgresql, forgetful_postgresql, crash_test]
+    cases += [killed_fronts, vanished_clients, leaving_clients, slow_clients, many_lines, idle_clients]
+    cases += [over_etcd, dying_nodes, ended_while_away, partitions, over_redis, forgetful_redis, redis_replicas, over_postgresql, forgetful_postgresql, postgresql_standby, crash_test]
     return run_cases([case for case in cases if not names or case.__name__ in names], of="payments")
 
 

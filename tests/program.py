@@ -133,6 +133,8 @@ def refuses_words(sgt):
     sgt.expect("ship", status=2, err=usage("unknown_command"))
     sgt.expect("script", "one", "more", status=2, err=usage("unexpected_word"))
     sgt.expect("bank", "--jobs", "3", status=2, err=usage("unknown_option"))
+    for words in (["--threads", "3"], ["--threads=3"], ["--explain", "--threads"]):
+        sgt.expect("bank", *words, status=2, err=usage("threads"))
 
 
 def refuses_numbers(sgt):
@@ -140,6 +142,10 @@ def refuses_numbers(sgt):
                                  ("most", str(MOST_BYTES + 1), MOST_BYTES)):
         text = usage("bad_number").format(option=option, number=number, last=last)
         sgt.expect("bank", f"--{option}", number, given=OPENING, status=2, err=text)
+    for option, last in (("workers", 16), ("tries", 1000), ("most", MOST_BYTES)):
+        for word in ("abc", "1.5", "-1"):
+            text = usage("bad_number").format(option=option, number=word, last=last).replace(f"{word} is not in 1..={last}", f"a whole number from 1 to {last} is expected")
+            sgt.expect("bank", f"--{option}={word}", given=OPENING, status=2, err=text)
 
 
 # The options of a run that exclude each other.
@@ -175,6 +181,10 @@ def reads_a_named_file(sgt):
                    out=sgt.run("bank", "--workers", "2", given=OPENING + '["job",0,[1]]\n')[1])
         sgt.expect("check", named(HISTORY), status=1, out=REPORT, err=unjudged(REPORT))
         sgt.expect("check", "--graph", named(HISTORY, "-h.txt").replace(scratch, f"{scratch}/."), status=1, out=GRAPH)
+        for words, given in ((["script"], OPENING + EVENTS), (["script", "--explain"], OPENING + "[]\n"), (["bank", "--workers", "2"], OPENING + JOB), (["check"], HISTORY)):
+            same(f"{words} -", sgt.run(*words, given=given), sgt.run(*words, "-", given=given))
+        sgt.expect("script", named(OPENING + EVENTS, "-").replace(scratch, f"{scratch}/."), given="not read", out=REPLIES + RECORDS)
+        sgt.expect("script", "--", "-", given=OPENING + EVENTS, out=REPLIES + RECORDS)
         missing = os.path.join(scratch, "none")
         for command in ("script", "bank", "check"):
             sgt.expect(command, missing, given=HISTORY, status=2, err=f"cannot read {missing}: no such file\n")
@@ -562,6 +572,13 @@ def says_how_jobs_ended(sgt):
     err += f"job 5: refused: argument 1 is 1000000000000000, {explained.RANGE}\ncode 1 (the name is unknown) of Balance: 1 job\n" + SUMMARY.format(6, 2, 1, 0, 3, 0, 3) + "\n"
     sgt.expect("bank", "--explain", "--workers", "1", given=given, out=out, err=err)
     sgt.expect("bank", "--explain", given=OPENING, out=RECORDS, err=SUMMARY.format(0, 0, 0, 0, 0, 0, 0) + "\n")
+    own = '{"limits":[4,100],"accounts":[],"procedures":[[1,[]],[0,[]],[4,[["ask",1]]]]}\n'
+    jobs = ((5, []), (6, [1]), (7, [1, 2, 3]), (65535, [1, 2]), (8, []), (2, [1]))
+    err = "".join(f"job {job}: refused: {words}\n" for job, words in enumerate((
+        "procedure 5 takes 1 argument, found 0", "procedure 6 takes 0 arguments, found 1", "procedure 7 takes 4 arguments, found 3",
+        "procedure 65535 takes 0 arguments, found 2", "there is no procedure 8", "TransactSaving takes 2 arguments, found 1")))
+    same("procedures of line 1", (0, err + SUMMARY.format(6, 0, 0, 0, 6, 0, 0) + "\n"),
+         sgt.run("bank", "--explain", given=own + "".join(f'["job",{procedure},{args}]\n' for procedure, args in jobs))[::2])
     one = "1 job: 1 committed, 0 aborted with a code, 0 given up, 0 refused, 0 without memory; 1 try\n"
     sgt.expect("bank", "--explain", given=OPENING + JOB, out=DEPOSITED, err=one)
 
@@ -620,18 +637,41 @@ def takes_words_for_codes(sgt):
         same("script", (0, reported), (came[0], [line.split(": ", 1)[1] for line in came[2].splitlines() if " aborted " in line]))
         same("its output", sgt.run("script", given=opening + script)[1], came[1])
         sgt.expect("script", "--explain", "--words", words(""), given=OPENING, out=RECORDS)
-        form = 'expected [procedure,code,"words"], as [5,10,"too little money"]'
+        form = 'expected [procedure,code,"words"], as [5,10,"too little money"]; the words have 1 to 200 bytes'
         good = '[5,5,"x"]\n'
         for text, line in (("{}", 1), ("\n", 1), (f"{good}[5,6]", 2), (f'{good}{good.replace(",5", ",6")}[5,7,""]', 3), ('[5,5,"a\\nb"]', 1), ('["5",5,"x"]', 1),
                            ('[5,-1,"x"]', 1), ('[65536,5,"x"]', 1), (f'[5,5,"{"x" * 201}"]', 1), ('[5,5,"x",1]', 1), ("\ufeff[5,5,\"x\"]", 1)):
             sgt.expect("script", "--explain", "--words", words(text), given=OPENING, status=2, err=f"cannot read {words(text)}: line {line}: {form}\n")
-        sgt.expect("bank", "--explain", "--words", words(f'[5,5,"{"x" * 200}"]'), given=OPENING, err=SUMMARY.format(0, 0, 0, 0, 0, 0, 0) + "\n", out=RECORDS)
+        sgt.expect("bank", "--explain", "--words", words(f'[5,5,"{"x" * 200}"]'), given=OPENING,
+                   err=SUMMARY.format(0, 0, 0, 0, 0, 0, 0) + f"\n{os.path.join(folder, 'words of mine')}: line 1: there is no procedure 5\n", out=RECORDS)
         for text, why in ((good + good, "line 2: code 5 of procedure 5 has words already"), (good + " " * 65_536, "it has more than 65536 bytes")):
             sgt.expect("bank", "--explain", "--words", words(text), given=OPENING, status=2, err=f"cannot read {words(text)}: {why}\n")
         for path, why in ((os.path.join(folder, "none"), "no such file"), (folder, "it is a directory")):
             sgt.expect("script", "--explain", "--words", path, given=OPENING, status=2, err=f"cannot read {path}: {why}\n")
         for command in ("script", "bank"):
             sgt.expect(command, "--words", given, given=OPENING, status=2, err=usage("words_alone").format(command=command))
+
+
+def says_which_words_are_of_no_procedure(sgt):
+    """The highest that the file names, if that is not there, after a run that ends well; also of an input that is longer than what is stored."""
+    own = '{"limits":[4,100],"accounts":[],"procedures":[[0,[]],[0,[]]]}\n'
+    with tempfile.NamedTemporaryFile("w", suffix=".jsonl") as file:
+        def words(*procedures):
+            file.seek(0)
+            file.truncate()
+            file.write("".join(f'[{procedure},1,"x"]\n' for procedure in procedures))
+            file.flush()
+
+        for opening, procedures, reported in ((OPENING, (0, 4), ""), (OPENING, (0, 5), "line 2: there is no procedure 5"), (own, (6, 5), ""),
+                                              (own, (5, 9, 8), "line 2: there is no procedure 9"), (own, (65535,), ""), (own, (), "")):
+            words(*procedures)
+            reported = f"{file.name}: {reported}\n" if reported else ""
+            for command, first in (("script", ""), ("bank", SUMMARY.format(0, 0, 0, 0, 0, 0, 0) + "\n")):
+                same(f"{command} {procedures}", (0, first + reported), sgt.run(command, "--explain", "--words", file.name, given=opening)[::2])
+        words(9)
+        long = own + '["quit",0]\n' * 200_000
+        same("the last line", f"{file.name}: line 1: there is no procedure 9", sgt.run("script", "--explain", "--words", file.name, given=long)[2].splitlines()[-1])
+        same("an error", 'line 2: bad line\nexpected ["cut"], found ["cut",0]\n', sgt.run("script", "--explain", "--words", file.name, given=own + '["cut",0]\n')[2])
 
 
 def says_why_events_are_refused(sgt):
@@ -646,10 +686,10 @@ def says_why_events_are_refused(sgt):
                "over committed", "unknown", "unknown", "unknown"]
     reported = {2: "no transaction has started with the number 7", 3: "DepositChecking takes 2 arguments, found 1", 4: "procedure 5 takes 1 argument, found 2",
             5: "there is no procedure 6", 6: f"argument 1 is -1000000000000000, {explained.RANGE}", 8: f"the value is 1000000000000000, {explained.RANGE}",
-            10: "as many are live as line 1 allows", 14: "as many have started as line 1 allows", 17: "no transaction has started with the number 0",
+            10: "as many are live as line 1 allows", 14: "as many have started as line 1 allows", 17: "no transaction has started with the number 0 since the cut",
             19: "the procedure of 0 has not ended: it has another step", 20: "the procedure of 0 has not ended: it has another step",
             23: "transaction 0 has ended", 24: "transaction 0 has ended",
-            **{line: f"no transaction has started with the number {number}" for line, number in ((25, 4294967295), (26, 4294967295), (27, 4294967294))}}
+            **{line: f"no transaction has started with the number {number} since the cut" for line, number in ((25, 4294967295), (26, 4294967295), (27, 4294967294))}}
     sgt.expect("script", "--explain", given=opening + "\n".join(events), out="".join(f"{reply}\n" for reply in replies),
                err="".join(f"line {line}: {words}\n" for line, words in reported.items()))
 
@@ -675,7 +715,7 @@ def reports_by_whom_tries_were_aborted(sgt):
     given = OVERLAPPING + '["job",5,[]]\n["job",6,[]]\n' * 200
     for tries in ("1000", "2"):
         tally = [0, 0]
-        for _ in range(30):
+        for _ in range(500):
             status, wrote, reported = sgt.run("bank", "--explain", "--workers", "16", "--tries", tries, given=given)
             same("status", 0, status)
             tried(wrote.splitlines(), reported.splitlines(), tally)
@@ -803,8 +843,8 @@ def reports_who_is_live_at_the_end(sgt):
 
 
 def explains_up_to_a_fault(sgt):
-    sgt.expect("script", "--explain", given=OPENING + LOST + "no JSON\n" + LOST, status=2, out=LOST_REPLIES, err=why_lost(2) + "line 10: not JSON\ncolumn 1: not JSON from here\n")
-    sgt.expect("script", "--explain", given=OPENING + EVENTS + '["jump",0]\n', status=2, out=REPLIES, err='line 4: bad line\nunknown word "jump"\n')
+    sgt.expect("script", "--explain", given=OPENING + LOST + "no JSON\n" + LOST, status=2, out=LOST_REPLIES, err=why_lost(2) + "line 10: not JSON\ncolumn 1: not JSON from here: a word stands in double quotes\n")
+    sgt.expect("script", "--explain", given=OPENING + EVENTS + '["jump",0]\n', status=2, out=REPLIES, err='line 4: bad line\nunknown word "jump": a line starts with start, step, commit, quit (abort), begin, read, write, remove or cut; before the first of these, with record\n')
     sgt.expect("script", "--explain", status=2, err="line 1: no opening\nthe input is empty\n")
 
 
@@ -894,13 +934,15 @@ def says_what_an_operation_looks_like(sgt):
     form = "an operation is r1[x], w1[x], c1 or a1"
     small = "an operation starts with a small letter: r1[x], w1[x], c1 or a1"
     item = "an item is 1 to 64 letters, digits and _ . / : -"
+    named = "a read and a write name an item in square brackets, without a space, as in r1[x]"
     long = "y" * 64
     for given, column, words in (
         ("A1", 1, small),
         ("r1[x] w1[x]\n  C1", 3, small),
         ("r1(x)", 1, "an item stands in square brackets, as in r1[x]"),
         ("r1[x]\tw2(y)", 7, "an item stands in square brackets, as in r1[x]"),
-        ("c1 r2", 4, "a read and a write name an item in square brackets, as in r1[x]"),
+        ("c1 r2", 4, named),
+        ("r1 [x]", 1, named),
         ("b1 r1[x]", 1, f"{form}; a transaction begins with its first one, without a word"),
         ("# none\nc1 x9", 4, form),
         ("r1[x], w2[x]", 6, "operations are separated by spaces or newlines, without commas"),
@@ -912,9 +954,9 @@ def says_what_an_operation_looks_like(sgt):
         ("r0[x] c00", 8, "the number of a transaction has no leading zeros"),
         ("r4294967295[x] r4294967296[x]", 17, "a transaction is a number from 0 to 4294967295"),
         ("c99999999999999999999999", 2, "a transaction is a number from 0 to 4294967295"),
-        ("r1[a,b]", 5, item),
+        ("r1[a,b]", 5, f"a history has no values: {item}"),
         ("r1[]", 4, item),
-        ("w1[x:=5]", 6, item),
+        ("w1[x:=5]", 6, f"a history has no values: {item}"),
         ("r1[a b]", 5, f"a ] is missing here; {item}"),
         ("r1[ x ]", 4, f"a ] is missing here; {item}"),
         ("c2 w1[x", 8, f"a ] is missing here; {item}"),
@@ -925,7 +967,11 @@ def says_what_an_operation_looks_like(sgt):
         ("r1\uff3bx\uff3d", 3, "U+FF3B is not ASCII"),
         ("r1[\U0001f600]", 4, "U+1F600 is not ASCII"),
         ("\ufeffr1[x]", 1, "a byte order mark: save the input without it"),
-        ("c1 r22[x] r2#", 11, "a read and a write name an item in square brackets, as in r1[x]"),
+        ("c1 r22[x] r2#", 11, named),
+        ("c1 // none", 4, "a comment starts with #"),
+        ("--none", 1, "a comment starts with #"),
+        ("r1[x] - r2[x]", 7, form),
+        ("w1[x=5]", 5, f"a history has no values: {item}"),
         (f"r1[x] r2[{long}]\r\nw2[x] r2[{long}y]", 10, item),
         ("c1 \x01\x7f \x01", 4, form),
     ):
@@ -945,7 +991,11 @@ def hints_at_the_kind_of_another_input(sgt):
         same("of a script", (2, "", True, f"{script}\n"), (status, out, reported.startswith("line 1: no operation: {"), reported[reported.index("; "):]))
     for given in ('[\n {"process":1}]', '{"a":{"type":1}}', "[{:f :txn\n :type :ok}]"):
         same(given, (2, "", clients), (*(it := sgt.run("check", given=given))[:2], it[2][it[2].index("; "):].strip()))
-    sgt.expect("check", given="{}", status=2, err="line 1: no operation: {}\ncolumn 1: an operation is r1[x], w1[x], c1 or a1\n")
+    for given in ("{}", "[1]", "{'type': 'ok', 'process': 0}"):
+        same(given, (2, "", clients), (*(it := sgt.run("check", given=given))[:2], it[2][it[2].index("; "):].strip()))
+    commented = "line 1, entry 1: no object; JSON has no comments, and text like r1[x] is read without --model list-append\n"
+    for given in ("# a note\nr1[x] c1\n", '# a note\n{"type":"ok","process":0,"f":"txn","value":[]}\n'):
+        sgt.expect("check", "--model", "list-append", given=given, status=2, err=commented)
     reported = "line 1, entry 1: the process is not a whole number or a text\nthis is a script: sgt script --history writes its history, for sgt check\n"
     sgt.expect("check", "--model", "list-append", given=OPENING + EVENTS, status=2, err=reported)
 
@@ -987,16 +1037,16 @@ def says_more_of_each_other_error(sgt):
 def shows_what_was_typed(sgt):
     """Numbers digit by digit, members in their order; without the spaces."""
     for line, shown in (
-        ('["start",1,[100000000000000000000,1]]', "expected a whole number of at most 15 digits as argument 0, found 100000000000000000000"),
-        ('["start",1,[1, 123456789012345678901 ]]', "expected a whole number of at most 15 digits as argument 1, found 123456789012345678901"),
+        ('["start",1,[100000000000000000000,1]]', "column 13: expected a whole number of at most 15 digits as argument 0, found 100000000000000000000"),
+        ('["start",1,[1, 123456789012345678901 ]]', "column 16: expected a whole number of at most 15 digits as argument 1, found 123456789012345678901"),
         ('{"step" : 0, "at" : 1, "b" : [ ]}', 'expected an event, as ["step",0], found {"step":0,"at":1,"b":[]}'),
-        ('["write",0,3,1,1E5]', "expected a whole number of at most 15 digits as the value, found 1E5"),
-        ('["quit", "1e5"]', 'expected a transaction from 0 to 4294967295, found "1e5"'),
+        ('["write",0,3,1,1E5]', "column 16: expected a whole number of at most 15 digits as the value, found 1E5"),
+        ('["quit", "1e5"]', 'column 10: expected a transaction from 0 to 4294967295, found "1e5"'),
         ('["step",0,"]",{"z":"\\"","a":1}]', 'expected ["step",transaction], found ["step",0,"]",{"z":"\\"","a":1}]'),
     ):
         same(line, f"line 2: bad line\n{shown}\n", sgt.run("script", given=OPENING + line + "\n")[2])
     line = '{"procedures":[],"limits":[1,10],"accounts":{"b":1,"a":2}}\n'
-    same(line, 'line 1: bad line\n"accounts": expected a list, found {"b":1,"a":2}\n', sgt.run("script", given=line)[2])
+    same(line, 'line 1: bad line\ncolumn 45: "accounts": expected a list, found {"b":1,"a":2}\n', sgt.run("script", given=line)[2])
 
 
 def finds_a_faulty_line_after_many(sgt):
@@ -1012,7 +1062,7 @@ def asks_for_input_on_a_terminal(sgt):
     with tempfile.NamedTemporaryFile("w") as history:
         history.write("c1\n")
         history.flush()
-        for words, reported in ((["check"], "reading standard input; ^D ends\n"), (["check", history.name], "")):
+        for words, reported in ((["check"], "reading standard input; ^D ends\n"), (["check", "-"], "reading standard input; ^D ends\n"), (["check", history.name], "")):
             process = sgt.start(*words, stdin=theirs, stdout=subprocess.PIPE, stderr=subprocess.PIPE)
             os.write(ours, b"c1\n\x04")
             _, err = process.communicate(timeout=SECONDS)
@@ -1029,19 +1079,21 @@ def writes_objects_of_json(sgt):
             status, wrote, reported = sgt.run(*words, "--json", given=given.read_text())
             same(f"{given.name}: standard error and status", ("", 0), (reported, status))
             same(given.name, plain, [line_of(json.loads(line)) for line in wrote.splitlines()])
+            if words == ["script"]:
+                same(f"{given.name}: transactions", *transactions(given.read_text(), wrote))
             records = "".join(line for line in wrote.splitlines(True) if line.startswith("["))
             same(f"{given.name}: records", sgt.run(*words, "--records", given=given.read_text())[1], records)
     given = OPENING + '["job",1,[1,50]]\n["job",0,[9]]\n["job",99,[]]\n'
-    out = '{"job":0,"outcome":"committed","answers":[1050],"tries":1}\n{"job":1,"outcome":"asked","code":1,"tries":1}\n'
+    out = '{"job":0,"outcome":"committed","answers":[1050],"event":5,"tries":1}\n{"job":1,"outcome":"asked","code":1,"event":8,"tries":1}\n'
     out += '{"job":2,"outcome":"refused","reason":"no procedure","tries":0}\n["record",0,1,101]\n["record",1,1,500]\n["record",2,1,1050]\n'
     out = out.replace('["record",1,1,500]\n["record",2,1,1050]', '["record",1,101,500]\n["record",2,101,1050]')
     sgt.expect("bank", "--json", "--workers", "1", given=given, out=out)
     sgt.expect("script", "--json", given=OPENING + EVENTS + "[]\n", status=2, err="line 4: bad line\n",
-               out='{"reply":"started","transaction":0}\n{"reply":"read","table":0,"number":1,"value":101}\n')
+               out='{"transaction":0,"reply":"started"}\n{"transaction":0,"reply":"read","table":0,"number":1,"value":101}\n')
 
 
 def writes_each_reply_as_an_object(sgt):
-    """Those that no example has."""
+    """Those that no example has. Each has the transaction that its event names or has started, also if there is none of that number."""
     given = """["begin"]
 ["begin"]
 ["cut"]
@@ -1053,20 +1105,24 @@ def writes_each_reply_as_an_object(sgt):
 ["commit",1]
 ["step",0]
 ["step",9]
+["start",9,[]]
+["start",0,[]]
 ["cut"]
 """
-    out = """{"reply":"started","transaction":0}
-{"reply":"started","transaction":1}
+    out = """{"transaction":0,"reply":"started"}
+{"transaction":1,"reply":"started"}
 {"reply":"still live"}
-{"reply":"wrote","table":3,"number":1,"value":7}
-{"reply":"read","table":3,"number":1,"value":7}
-{"reply":"read","table":3,"number":2,"value":null}
-{"reply":"waits","transaction":0}
-{"reply":"aborted","cause":"quit","cascade":[1]}
-{"reply":"over","fate":"cascade","with":0}
-{"reply":"over","fate":"aborted","cause":"quit"}
-{"reply":"unknown"}
-{"reply":"cut","events":10}
+{"transaction":0,"reply":"wrote","table":3,"number":1,"value":7}
+{"transaction":1,"reply":"read","table":3,"number":1,"value":7}
+{"transaction":1,"reply":"read","table":3,"number":2,"value":null}
+{"transaction":1,"reply":"waits","for":0}
+{"transaction":0,"reply":"aborted","cause":"quit","cascade":[1]}
+{"transaction":1,"reply":"over","fate":"cascade","with":0}
+{"transaction":0,"reply":"over","fate":"aborted","cause":"quit"}
+{"transaction":9,"reply":"unknown"}
+{"reply":"no procedure"}
+{"reply":"bad args"}
+{"reply":"cut","events":12}
 """
     records = '["record",0,1,101]\n["record",1,101,500]\n["record",2,101,1000]\n'
     sgt.expect("script", "--json", given=OPENING + given, out=out + records)
@@ -1086,6 +1142,18 @@ def counts_the_tries_in_json(sgt):
         match = re.fullmatch(r"job (\d+): .* at try (\d+)(?:;.*)?", line)
         tries[int(match[1])] = int(match[2])
     same("each", [tries[number] for number in range(1200)], [job["tries"] for job in jobs])
+
+
+def transactions(given, wrote):
+    """The transaction of each event and cut of a script, and that of each object: the one that it names, or, of a start, the next one."""
+    objects = [json.loads(line) for line in wrote.splitlines() if line.startswith("{")]
+    events = [event for event in map(json.loads, given.splitlines()[1:]) if event[0] != "record"]
+    wanted, next_one = [], 0
+    for event, one in zip(events, objects, strict=True):
+        is_started = one["reply"] == "started"
+        wanted.append(next_one if is_started else event[1] if event[0] not in ("start", "begin", "cut") else None)
+        next_one = 0 if one["reply"] == "cut" else next_one + is_started
+    return wanted, [one.get("transaction") for one in objects]
 
 
 REASONS = {"no procedure": 1, "bad args": 2, "spent": 3, "full": 4}
@@ -1112,7 +1180,8 @@ def line_of(one):
         words.append({"cascade": "fell"}.get(one["fate"], one["fate"]))
     if "cause" in one:
         words.append({"code": "asked"}.get(one["cause"], one["cause"]))
-    words += [str(one[name]) for name in ("transaction", "events", "code", "with") if name in one]
+    words += [str(one["transaction"])] if one["reply"] == "started" else []
+    words += [str(one[name]) for name in ("for", "events", "code", "with") if name in one]
     words += [joined(one[name]) for name in ("answers", "cycle") if name in one]
     return " ".join(words + (["fell", joined(one["cascade"])] if "cascade" in one else []))
 
@@ -1224,23 +1293,27 @@ def takes_the_workers(sgt):
 
 
 def takes_the_tries(sgt):
-    """Each job reads a record many times and then writes it, so two that overlap close a cycle. On a busy machine it takes more jobs."""
+    """Each job reads a record many times and then writes it, so two that overlap close a cycle. On a busy machine it takes more jobs.
+    With one try such a job is given up. With three it is tried again, and given up if it is aborted three times."""
     look = ",".join(['["look",0,1,101,5]'] * 60)
     procedure = f'[0,[{look},["put",1,101,["sum",["reg",0],1]],["answer",["reg",0]]]]'
     opening = f'{{"limits":[16,4000000],"accounts":[[1,101,0,0]],"procedures":[{procedure}]}}\n'
     for tries in (1, 3):
         for draw in range(30):
             given = opening + '["job",5,[]]\n' * (400 << draw // 5)
-            status, out, err = sgt.run("bank", "--workers", "16", "--tries", str(tries), given=given)
+            status, out, err = sgt.run("bank", "--workers", "16", "--tries", str(tries), "--json", given=given)
             same("status", (0, ""), (status, err))
-            gave = set(re.findall(r"^[0-9]+ gave ([0-9]+)$", out, re.M))
-            committed = sorted(int(n) for n in re.findall(r"^[0-9]+ committed ([0-9]+)$", out, re.M))
-            same("the answers", list(range(len(committed))), committed)
-            if gave:
-                same("the tries that were given up", {str(tries)}, gave)
+            jobs = [job for job in map(json.loads, out.splitlines()) if isinstance(job, dict)]
+            ended = sorted((job for job in jobs if job["outcome"] == "committed"), key=lambda job: job["event"])
+            same("the answers in commit order", list(range(len(ended))), [job["answers"][0] for job in ended])
+            gave = {job["tries"] for job in jobs if job["outcome"] == "gave"}
+            same("the tries that were given up", set(), gave - {tries})
+            same("the tries that a job took", set(), {job["tries"] for job in jobs} - set(range(1, tries + 1)))
+            same("the outcomes", set(), {job["outcome"] for job in jobs} - {"committed", "gave"})
+            if gave or any(job["tries"] > 1 for job in jobs):
                 break
         else:
-            raise Differs(f"no job was given up with {tries} tries")
+            raise Differs(f"no job was aborted with {tries} tries")
 
 
 def reports_threads_that_could_not_be_made(sgt):
@@ -1338,6 +1411,7 @@ CASES = [
     says_how_jobs_ended,
     says_what_codes_mean,
     takes_words_for_codes,
+    says_which_words_are_of_no_procedure,
     says_why_events_are_refused,
     says_how_each_job_of_the_examples_ended,
     reports_by_whom_tries_were_aborted,

@@ -1,13 +1,14 @@
 #!/usr/bin/env python3
 """Measures durable payments: examples/payments by each journal, beside SQLite behind the same server, and PostgreSQL. It takes four minutes.
 
-    bench/payments/run.py [ROUNDS [SECONDS]]
+    bench/payments/run.py [ROUNDS [SECONDS]] [file] [SQLite] [Redis] [etcd] [PostgreSQL] [cut]
 
 1, 8 and 64 clients pay in a closed loop over 1000 accounts, and 8 in lists of 100. The contestants take turns, ROUNDS times (2), each for
 SECONDS (3), as the machine's speed changes. Tables of medians are printed: payments a second, with the least and the greatest; the median
 latency; and what a payment takes of the processors: of the server's process, which is the only one that runs payments, of its fronts, of
 the generator of load, one thread (load.c) or two (pgbench), and of the Redis or the three nodes of etcd, which are on this machine too.
-At last a server with RECORDS records, which forgets old ids, is loaded by 64 clients until it has cut its history: the longest reply.
+At last a server with RECORDS records, which forgets old ids, is loaded by 64 clients until it has cut its history: the longest reply. With
+names of contestants only those run, and the cut only if it is named, too.
 
 It needs the library of `bindings/build` and `cc`. The servers run by the Python that runs this: Debian's, /usr/bin/python3, is faster than
 one that was built without optimization. What else is missing (etcd, Redis, PostgreSQL) is left out, and said. It is no part of the gate.
@@ -40,6 +41,7 @@ CLIENTS = (1, 8, 64)
 LISTS = "8 in lists of 100"
 CENTS = 100_000_000
 RECORDS, UNTIL_CUT = 5_000_000, 60  # the seconds at most until the history is cut
+NAMES = [word for word in sys.argv[1:] if not word.isdigit()] or ["file", "SQLite", "Redis", "etcd", "PostgreSQL", "cut"]
 RATE, LATENCY, TIME = "Payments a second", "Median latency, ms", "Processor time a payment, microseconds"
 reported: dict = {}  # by what is measured, contestant and clients
 
@@ -132,7 +134,7 @@ class Postgres:
 
     def __init__(self, scratch):
         self.scratch, self.bin = scratch / "postgres", max(pathlib.Path("/usr/lib/postgresql").glob("*/bin"), default=None)
-        self.is_there = self.bin is not None
+        self.is_there = self.bin is not None and "PostgreSQL" in NAMES
         if not self.is_there:
             return
         self.user = ["runuser", "-u", "postgres", "--"] if os.getuid() == 0 else []
@@ -170,14 +172,16 @@ def take_turn(scratch, python, load, seconds):
     """All contestants but PostgreSQL, each with a journal of its own."""
     serve = (PAYMENTS / "payments.py", "serve")
     fsyncs(scratch)
-    served("sgt, file", python, load, seconds, *serve, scratch / "file", "--cents", CENTS)
-    served("SQLite behind the same server", python, load, seconds, HERE / "sqlite_queue.py", "serve", scratch / "served.db")
-    if not Redis.missing():
+    if "file" in NAMES:
+        served("sgt, file", python, load, seconds, *serve, scratch / "file", "--cents", CENTS)
+    if "SQLite" in NAMES:
+        served("SQLite behind the same server", python, load, seconds, HERE / "sqlite_queue.py", "serve", scratch / "served.db")
+    if "Redis" in NAMES and not Redis.missing():
         (scratch / "redis").mkdir()
         with running(Redis, scratch / "redis") as redis:
             words = (*serve, scratch / "by_redis", "--journal", redis.address, "--cents", CENTS)
             served("sgt, Redis", redis.python, load, seconds, *words, others=[redis.process.pid])
-    if not Etcd.missing():
+    if "etcd" in NAMES and not Etcd.missing():
         with running(Etcd, scratch) as etcd:
             words = (*serve, scratch / "by_etcd", "--journal", etcd.address, "--cents", CENTS)
             served("sgt, etcd", etcd.python, load, seconds, *words, others=[it.pid for it in etcd.processes])
@@ -199,7 +203,8 @@ def print_tables():
 
 
 def main():
-    rounds, seconds = ([int(word) for word in sys.argv[1:]] + [2, 3][len(sys.argv) - 1 :])[:2]
+    numbers = [int(word) for word in sys.argv[1:] if word.isdigit()]
+    rounds, seconds = (numbers + [2, 3][len(numbers) :])[:2]
     # A folder that other users may enter, for PostgreSQL's.
     scratch = pathlib.Path(tempfile.mkdtemp(prefix="payments-", dir=os.environ.get("ROOM", "/var/tmp")))
     scratch.chmod(0o755)
@@ -217,10 +222,11 @@ def main():
             if postgres.is_there:
                 postgres.turn(seconds)
             print(f"round {number + 1}: load {os.getloadavg()[0]:.1f}", flush=True)
-        cut(scratch, sys.executable, load)
-    missing = {"etcd": Etcd.missing(), "Redis": Redis.missing(), "PostgreSQL": None if postgres.is_there else "it is not on this machine"}
+        if "cut" in NAMES:
+            cut(scratch, sys.executable, load)
+    missing = {"etcd": Etcd.missing(), "Redis": Redis.missing(), "PostgreSQL": None if postgres.bin else "it is not on this machine"}
     for name, why in missing.items():
-        if why:
+        if why and name in NAMES:
             print(f"{name} was left out: {why}")
     print_tables()
 

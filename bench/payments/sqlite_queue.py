@@ -113,6 +113,9 @@ class Chain:
     def check(self) -> None:
         pass
 
+    def follow(self) -> None:
+        """It leads always."""
+
     def append(self, _calls: list) -> None:
         with self.bank.lock:
             if self.bank.database.in_transaction:

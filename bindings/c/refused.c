@@ -89,6 +89,8 @@ static int adds(sgt_engine *engine, sgt_fault *fault)
 /* The texts of a reply and of a fault: after a failure nothing is written. Returns how many calls failed, or -1. */
 static int texts(const sgt_reply *reply)
 {
+    static const char explanation[] = "procedure 5, at top: expected [arguments,[statement,..]], found 7: "
+                                      "a procedure is a list in the list of procedures, as [[0,[[\"answer\",7]]]]";
     const sgt_fault flaw = {.kind = SGT_PROC_FLAW, .procedure = 5, .number = 7};
     char text[32] = "untouched";
     uint64_t length = 77;
@@ -111,7 +113,7 @@ static int texts(const sgt_reply *reply)
         if (length != 18 || text[0] != '.') return -1;
         refused++;
     }
-    return status == SGT_OK && length == 65 && text[0] == '.' ? refused : -1;
+    return status == SGT_OK && length == strlen(explanation) && text[0] == '.' ? refused : -1;
 }
 
 /* A cut: after a failure the entries and the committed values are as before. Returns how many calls failed, or -1. */

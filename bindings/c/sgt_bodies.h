@@ -10,12 +10,6 @@ enum { IN_BODY = 2 }; /* `is_live` of a transaction whose body is under way */
 
 /* Tries */
 
-/* Whether the reply is of a conflict, so that the try is made anew. */
-static bool is_conflict(const sgt_reply *reply)
-{
-    return (reply->kind == SGT_ABORTED && reply->cause == SGT_BY_CYCLE) || (reply->kind == SGT_OVER && reply->cause == SGT_BY_FALL);
-}
-
 /* Whether the transaction is there, as far as its size and its engine say. */
 static bool is_made(const sgt_transaction *t) { return t && t->size >= sizeof *t && t->shared; }
 
@@ -23,7 +17,7 @@ static bool is_made(const sgt_transaction *t) { return t && t->size >= sizeof *t
 static uint32_t end_try(sgt_transaction *t)
 {
     t->is_live = 0;
-    t->status = is_conflict(&t->reply) ? SGT_UNDONE : SGT_OK;
+    t->status = sgt_desk_is_undone(&t->reply) ? SGT_UNDONE : SGT_OK;
     return t->status;
 }
 

@@ -26,6 +26,7 @@ uint32_t proved_sgt_get(sgt_engine *, uint64_t, int64_t, int64_t *);
 uint32_t proved_sgt_rows(sgt_engine *, uint64_t, int64_t, sgt_row *, size_t, uint64_t *);
 uint32_t proved_sgt_records(sgt_engine *, uint64_t *);
 uint32_t proved_sgt_live_tids(sgt_engine *, uint32_t *, uint64_t *);
+uint32_t proved_sgt_limits(sgt_engine *, uint64_t *);
 uint32_t proved_sgt_entries(sgt_engine *, uint64_t *);
 uint32_t proved_sgt_entry(sgt_engine *, uint64_t, sgt_event *, sgt_reply *);
 uint32_t proved_sgt_calls(sgt_engine *, uint64_t, sgt_call *, size_t, uint64_t *, uint64_t *);
@@ -185,6 +186,12 @@ uint32_t sgt_live_tids(const sgt_engine *engine, uint32_t tids[32], uint64_t *co
 {
     if (!engine) return SGT_CLOSED;
     return tids && count ? proved_sgt_live_tids(read_from(engine), tids, count) : (uint32_t)SGT_BAD_CALL;
+}
+
+uint32_t sgt_limits(const sgt_engine *engine, uint64_t limits[3])
+{
+    if (!engine) return SGT_CLOSED;
+    return limits ? proved_sgt_limits(read_from(engine), limits) : (uint32_t)SGT_BAD_CALL;
 }
 
 uint32_t sgt_entries(const sgt_engine *engine, uint64_t *count)

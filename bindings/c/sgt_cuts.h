@@ -7,15 +7,6 @@
 #include "sgt_entering.h"
 #include "sgt_owners.h"
 
-/* Whether the history may not be cut. */
-static bool is_busy(sgt_shared *s)
-{
-    uint32_t cuts = 0;
-    const sgt_ask ask = {0};
-    sgt_desk_cuts(&s->engine, &s->desk, &ask, &cuts);
-    return !cuts;
-}
-
 static uint64_t entries(sgt_shared *s)
 {
     uint64_t count = 0;
@@ -23,12 +14,12 @@ static uint64_t entries(sgt_shared *s)
     return count;
 }
 
-/* Puts a cut that is due off. */
+/* Puts the next cut off: after one, or where one failed. */
 static void put_off(sgt_shared *s)
 {
-    s->cut_at = entries(s) + s->config.cut_after;
-    s->pauses = false;
-    wake_all(s);
+    uint32_t wakes = 0;
+    sgt_desk_put_off(&s->engine, &s->plan, &wakes);
+    if (wakes) wake_all(s);
 }
 
 /* The same for a cut whose hook threw an exception, or ended its thread. */
@@ -63,46 +54,38 @@ static uint32_t cut_turn(sgt_shared *s, sgt_ask *ask)
     const uint32_t turn = sgt_desk_cut(&s->engine, &s->desk, ask, time_for(ask), &wakes);
     if (turn == SGT_OK && cuts) {
         sgt_part(&s->engine, &s->part);
-        s->read = 0, s->notes = 0, s->cut_at = s->config.cut_after, s->pauses = false;
+        s->notes = 0;
+        put_off(s);
     }
     if (wakes) wake_all(s);
     return turn;
 }
 
-/* Makes the cut that the configuration asks for, or has starts wait for it. */
+/* Makes the cut that the configuration asks for, if it is due, or has starts wait for it. */
 static void cut_if_due(sgt_shared *s)
 {
-    const uint64_t count = entries(s);
-    if (count < s->cut_at) {
-        s->before_cut = (s->cut_at - count) / MOST_OF_TURN;
-        return;
-    }
+    uint32_t wakes = 0;
     sgt_ask ask = {.until = SGT_AT_ONCE};
-    const uint32_t turn = cut_turn(s, &ask);
-    if (turn == SGT_TIMED_OUT && s->config.cut_wait_ns > 0 && !s->pauses) {
-        s->pauses = true;
-        s->pause = in_ns(s->config.cut_wait_ns);
-    } else if (turn != SGT_OK && turn != SGT_TIMED_OUT) {
-        put_off(s);
-    }
+    const uint32_t next = sgt_desk_plan(&s->engine, &s->desk, &s->plan, (uint64_t)now(), &wakes);
+    if (wakes) wake_all(s);
+    if (next == SGT_AGAIN && cut_turn(s, &ask) != SGT_OK) put_off(s);
+    const uint64_t count = entries(s);
+    s->before_cut = count < s->plan.at ? (s->plan.at - count) / MOST_OF_TURN : 0;
 }
 
 /* Waits while starts wait for a cut that is due. Whether they do not any more before the deadline. */
 static bool await_pause(sgt_shared *s, struct deadline *until)
 {
-    while (s->pauses) {
-        if (!is_busy(s)) {
-            cut_if_due(s);
-            continue;
-        }
-        const bool is_own = until->at < s->pause;
-        struct deadline pause = {.at = s->pause};
-        if (rest(s, &s->changed, is_own ? until : &pause)) continue;
+    bool is_late = false;
+    while (s->plan.pauses && !is_late) {
+        cut_if_due(s);
+        struct deadline pause = {.at = s->plan.pause < INT64_MAX ? (int64_t)s->plan.pause : INT64_MAX};
+        const bool is_own = until->at < pause.at;
+        if (!s->plan.pauses || rest(s, &s->changed, is_own ? until : &pause)) continue;
         until->is_over |= pause.is_over;
-        if (is_own || until->is_over) return !s->pauses;
-        if (s->pauses && pause.at >= s->pause) put_off(s);
+        is_late = is_own || until->is_over;
     }
-    return true;
+    return !s->plan.pauses;
 }
 
 #endif

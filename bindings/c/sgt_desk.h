@@ -36,7 +36,7 @@ enum {
 /* What the threads of an engine know of each other. All bytes are zero at first. */
 typedef struct sgt_desk {
     uint64_t ended;      /* how often a transaction has ended */
-    uint64_t reported;       /* how many calls were committed or refused */
+    uint64_t reported;   /* how many calls were committed or refused */
     uint64_t committing; /* commits that rest */
     uint64_t cutters;    /* calls that wait for a cut */
 } sgt_desk;
@@ -58,6 +58,27 @@ typedef struct sgt_run_ask {
     uint32_t tid, has_ticket;
     uint32_t attempt, has_attempt; /* the attempt that rests in its commit, if one does */
 } sgt_run_ask;
+
+/* Cuts that the configuration asks for. All bytes are zero if it asks for none. */
+typedef struct sgt_plan {
+    uint64_t after;      /* how many entries after the last one, or after one was put off. 0: never */
+    uint64_t patience;   /* nanoseconds for which starts wait for one that is due. 0: they do not */
+    uint64_t at;         /* so many entries make one due */
+    uint64_t pause;      /* until when starts wait, if `pauses` is 1 */
+    uint32_t pauses, spare;
+} sgt_plan;
+
+/* Tries that are made alone. All bytes are zero at first. */
+typedef struct sgt_solo {
+    uint64_t waiting;    /* calls that wait to start one */
+    uint32_t is_live, spare; /* 1: the live transaction is one */
+} sgt_solo;
+
+/* Up to where calls were handed on. All bytes are zero at first. */
+typedef struct sgt_feed {
+    uint64_t part, read; /* the part of the history, and the position in it */
+    uint64_t count;      /* how many calls were handed on */
+} sgt_feed;
 
 /* What is noted of a transaction that was live between two calls, and may have ended since. The engine knows who is live. */
 typedef struct sgt_note {
@@ -96,6 +117,31 @@ uint32_t sgt_desk_make(sgt_engine *engine, sgt_desk *desk, uint64_t part, uint32
  * waits for another of them. `cuts` is 1 if a cut rests without a deadline, `is_cut` 1 if it is this call. The notes are at most 32.
  */
 uint32_t sgt_desk_waits_for_itself(const sgt_note *notes, size_t count, uint64_t thread, uint32_t cuts, uint32_t is_cut);
+
+/*
+ * What the plan asks for: SGT_OK nothing, SGT_AGAIN a cut, which can be made now, SGT_REST that starts wait until `pause`. It puts a cut off
+ * for which they have waited long enough.
+ */
+uint32_t sgt_desk_plan(sgt_engine *engine, const sgt_desk *desk, sgt_plan *plan, uint64_t now, uint32_t *wakes);
+
+/* Puts the next cut off until the history has as many more entries as the plan says: after a cut, or where one failed. */
+uint32_t sgt_desk_put_off(sgt_engine *engine, sgt_plan *plan, uint32_t *wakes);
+
+/* 1 if a conflict has ended a try whose last reply this is, so that it is made again. */
+uint32_t sgt_desk_is_undone(const sgt_reply *reply);
+
+/* 1 if a call that has made this many tries makes the next one alone: it makes `beside` beside others. The notes are of live transactions. */
+uint32_t sgt_desk_is_next_alone(const sgt_note *notes, size_t count, uint64_t thread, uint64_t tries, uint64_t beside);
+
+/*
+ * Whether a transaction may be started, alone or not: SGT_OK; SGT_REST if it waits for others; SGT_SELF_WAIT if that would be for ever, while
+ * its thread has a live transaction. The notes are of live transactions.
+ */
+uint32_t sgt_desk_admits(sgt_engine *engine, sgt_solo *solo, const sgt_note *notes, size_t count, uint64_t thread, uint32_t alone,
+                         uint32_t for_ever);
+
+/* Hands on the next call that was committed or refused, with its number. SGT_NONE if there is none yet. */
+uint32_t sgt_desk_hand_on(sgt_engine *engine, sgt_feed *feed, sgt_call *call, uint64_t *number);
 
 #pragma GCC visibility pop
 

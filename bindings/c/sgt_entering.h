@@ -127,7 +127,7 @@ static void cut_if_due(sgt_shared *s);
 static inline uint32_t leave(sgt_shared *s, uint32_t status)
 {
     if (s->reports) report(s);
-    if (s->config.cut_after && s->before_cut == 0) cut_if_due(s);
+    if (s->plan.after && s->before_cut == 0) cut_if_due(s);
     unlock(s);
     if (hooks) end_call();
     return status;

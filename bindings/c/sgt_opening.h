@@ -94,9 +94,9 @@ static sgt_shared *made(const sgt_shared_config *config, const sgt_engine *engin
     s->engine = *engine;
     sgt_part(&s->engine, &s->part);
     s->config = *config;
-    if (config->cut_after == 0) s->config.cut_after = default_cut(config, engine);
-    if (config->cut_after == SGT_NEVER) s->config.cut_after = 0;
-    s->cut_at = s->config.cut_after;
+    s->plan.after = config->cut_after == 0 ? default_cut(config, engine) : config->cut_after == SGT_NEVER ? 0 : config->cut_after;
+    s->plan.at = s->plan.after;
+    s->plan.patience = config->cut_wait_ns > 0 ? (uint64_t)config->cut_wait_ns : 0;
     s->number = atomic_fetch_add(&opened, 1) + 1;
     atomic_store(&s->forks, atomic_load(&forks));
     s->is_open = true;

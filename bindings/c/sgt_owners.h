@@ -65,15 +65,6 @@ static inline void drop_ended(sgt_shared *s, uint32_t tid, const sgt_reply *repl
     if (kind == SGT_COMMITTED || kind == SGT_ABORTED || kind == SGT_REFUSED || kind == SGT_OVER) drop(s, tid);
 }
 
-/* Whether a live transaction is this thread's. */
-static bool has_own(sgt_shared *s)
-{
-    uint32_t i = 0;
-    refresh(s);
-    while (i < s->notes && s->note[i].thread != this_thread()) i++;
-    return i < s->notes;
-}
-
 /* Who waits for whom */
 
 /* Notes of all transactions of this thread why it rests without a deadline, or that it does not: 0. */

@@ -1,8 +1,9 @@
 /*
  * See sgt_shared.h. Every call tests its pointers, enters, holds the lock while it works, releases it where it rests, and leaves.
  *
- * What is decided between threads is proved, and made by the calls of sgt_desk.h: who rests and why, who is woken, what is tried again,
- * what a ticket names, when a cut may be made. The files beside this one hold what waits, wakes, calls back, or needs to know threads:
+ * What is decided between threads is proved, and made by the calls of sgt_desk.h: who rests and why, who is woken, what is tried again and
+ * when alone, what a ticket names, when a cut is due and may be made, which calls are handed on. The files beside this one hold what waits,
+ * wakes, calls back, or needs to know threads:
  *
  *   sgt_lock.h      the lock, with its line, and sleeping
  *   sgt_state.h     what an engine holds here; deadlines, and how a thread rests
@@ -284,6 +285,12 @@ uint32_t sgt_shared_rows(sgt_shared *shared, uint64_t table, int64_t number, sgt
     uint32_t status = count && (rows || capacity == 0) ? enter(shared) : (uint32_t)SGT_BAD_CALL;
     if (status != SGT_OK) return status;
     return leave(shared, sgt_rows(&shared->engine, table, number, rows, capacity, count));
+}
+
+uint32_t sgt_shared_limits(sgt_shared *shared, uint64_t limits[3])
+{
+    uint32_t status = limits ? enter(shared) : (uint32_t)SGT_BAD_CALL;
+    return status == SGT_OK ? leave(shared, sgt_limits(&shared->engine, limits)) : status;
 }
 
 uint32_t sgt_shared_entries(sgt_shared *shared, uint64_t *count, uint64_t *part)

@@ -2,8 +2,9 @@
  * sgt_shared: one engine for many threads.
  *
  * Any thread may make any call at any time. Each call holds one lock, and releases it while it waits. Who waits for what, who is woken,
- * what is tried again, what a ticket names and when the history may be cut is proved, as the calls of sgt.h are. The lock, sleeping, hooks,
- * forks, and what the header says of threads are C, and tested: docs/PROOFS.md lists both, under sgt_desk and Only tested.
+ * what is tried again and when alone, what a ticket names, when the history is cut, and which calls are handed on is proved, as the calls of
+ * sgt.h are. The lock, sleeping, hooks, forks, and what the header says of threads are C, and tested: docs/PROOFS.md lists both, under
+ * sgt_desk and Only tested.
  *
  *     sgt_shared *bank;
  *     if (sgt_shared_open(&bank, opening, length, 0, 0, 0, &fault) != SGT_OK) return 1;
@@ -376,6 +377,9 @@ uint32_t sgt_shared_get(sgt_shared *shared, uint64_t table, int64_t number, int6
 
 /* The committed database from a record on, as by sgt_rows. SGT_NO_MEMORY; SGT_BAD_CALL. */
 uint32_t sgt_shared_rows(sgt_shared *shared, uint64_t table, int64_t number, sgt_row *rows, size_t capacity, uint64_t *count);
+
+/* The three limits, as by sgt_limits. */
+uint32_t sgt_shared_limits(sgt_shared *shared, uint64_t limits[3]);
 
 /* How many entries the history has since the last cut, and into `part` how many cuts there were. `part` may be null. */
 uint32_t sgt_shared_entries(sgt_shared *shared, uint64_t *count, uint64_t *part);

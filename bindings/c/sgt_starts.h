@@ -31,57 +31,34 @@ static const int64_t *args_of(const struct call *it)
 
 /* Tries that are made alone */
 
-/* How many are live. */
-static uint64_t lives(sgt_shared *s)
+/* Whether the next try is made alone, after `beside` tries beside others. */
+static bool is_due_alone(sgt_shared *s, uint64_t tries, uint32_t beside)
 {
-    uint32_t tids[MOST_LIVE];
-    uint64_t count = 0;
-    sgt_live_tids(&s->engine, tids, &count);
-    return count;
+    if (s->notes > 0) refresh(s);
+    return sgt_desk_is_next_alone(s->note, s->notes, this_thread(), tries, beside);
 }
-
-/* Whether the live transaction is to stay alone. */
-static bool is_alone(sgt_shared *s)
-{
-    if (s->is_alone && lives(s) == 0) s->is_alone = false;
-    return s->is_alone;
-}
-
-/*
- * Whether a start has to wait for others: for all that are live, if it is to be alone, and else for one that is to be alone. A thread
- * that has something live does not wait for one that is still to start, which waits for this thread.
- */
-static bool is_held_up(sgt_shared *s, bool alone)
-{
-    return alone ? lives(s) > 0 : is_alone(s) || (s->loners > 0 && !has_own(s));
-}
-
-/*
- * Whether the next try is made alone: after `most` aborts, unless this thread has something else live, which would have to end before.
- */
-static bool is_due_alone(sgt_shared *s, uint64_t aborts, uint32_t most) { return aborts >= most && !has_own(s); }
 
 /* Waits until a transaction may be started, alone or not. SGT_TIMED_OUT; SGT_SELF_WAIT. */
 static uint32_t await_others(sgt_shared *s, bool alone, struct deadline *until)
 {
-    bool in_time = true;
-    while (in_time) {
-        if (!await_pause(s, until)) return SGT_TIMED_OUT;
-        if (!is_held_up(s, alone)) return SGT_OK;
-        if (until->never && has_own(s)) return SGT_SELF_WAIT;
+    for (bool in_time = true;;) {
+        if (s->plan.pauses && !await_pause(s, until)) return SGT_TIMED_OUT;
+        refresh(s);
+        const uint32_t status = sgt_desk_admits(&s->engine, &s->solo, s->note, s->notes, this_thread(), alone, until->never);
+        if (status != SGT_REST) return status;
+        if (!in_time) return SGT_TIMED_OUT;
         in_time = rest(s, &s->changed, until);
     }
-    return is_held_up(s, alone) || s->pauses ? SGT_TIMED_OUT : SGT_OK;
 }
 
-/* Waits until the desk may be asked for a start, and makes room for its end. */
+/* Waits until the desk may be asked for a start, and makes room for its end. Where no try is alone, or is to be, none is waited for. */
 static inline uint32_t may_start(sgt_shared *s, bool alone, struct deadline *until)
 {
     uint32_t status = SGT_OK;
-    if (alone) s->loners++;
-    if (alone || s->pauses || s->is_alone || s->loners > 0) status = await_others(s, alone, until);
+    s->solo.waiting += alone;
+    if (s->solo.waiting > 0 || s->solo.is_live || s->plan.pauses) status = await_others(s, alone, until);
     if (status == SGT_OK && s->config.keeps_ended && !reserve(&s->queue, MOST_LIVE)) status = SGT_NO_MEMORY;
-    if (alone && --s->loners == 0) wake_all(s);
+    if (alone && --s->solo.waiting == 0) wake_all(s);
     return status;
 }
 
@@ -94,12 +71,11 @@ static uint32_t run(sgt_shared *s, const struct call *it, struct deadline *until
     sgt_ask before = {0};
     for (;;) {
         uint32_t wakes = 0, status = SGT_OK;
-        if (!run->has_attempt) status = may_start(s, run->tries >= MOST_ABORTS && is_due_alone(s, run->tries, MOST_ABORTS), until);
+        if (!run->has_attempt) status = may_start(s, run->tries > 0 && is_due_alone(s, run->tries, MOST_ABORTS), until);
         if (status != SGT_OK) return status;
-        const uint64_t reported = s->desk.reported;
         const uint32_t turn = sgt_desk_run(&s->engine, &s->desk, run, it->procedure, args_of(it), it->count, time_for(&run->ask),
                                            &out->reply, &wakes);
-        after_turn(s, reported, wakes);
+        after_turn(s, wakes);
         if (turn == SGT_OK) out->sequence = sequence_of(s, &out->reply);
         if (turn == SGT_OK && s->notes > 0) drop_ended(s, run->tid, &out->reply);
         if (turn == SGT_AGAIN) continue;
@@ -119,11 +95,10 @@ static uint32_t start(sgt_shared *s, const struct call *it, bool alone, struct d
         uint32_t wakes = 0;
         const uint32_t status = may_start(s, alone, until);
         if (status != SGT_OK) return status;
-        const uint64_t reported = s->desk.reported;
         const uint32_t turn = sgt_desk_start(&s->engine, &s->desk, ask, it->procedure, args_of(it), it->count, time_for(ask), reply, &wakes);
-        after_turn(s, reported, wakes);
+        after_turn(s, wakes);
         if (turn == SGT_OK && reply->kind == SGT_STARTED) {
-            *ticket = ticket_of(s, reply->tid), s->is_alone = alone;
+            *ticket = ticket_of(s, reply->tid);
             note(s, reply->tid, (uint32_t)it->procedure);
         }
         if (turn != SGT_REST) return turn == SGT_TIMED_OUT ? late : turn;

@@ -40,19 +40,16 @@ struct sgt_shared {
     sgt_desk desk;
     sgt_shared_config config;
     uint64_t part;               /* cuts so far: that of sgt_part */
-    uint64_t read;               /* the place of the history up to which calls that ended were handed on */
+    sgt_feed feed;
+    sgt_solo solo;
+    sgt_plan plan;
     sgt_note note[MOST_LIVE]; /* by rising numbers: of all live ones but a run's that does not rest, and of some that have ended */
     uint32_t notes;
     uint32_t cuts;               /* cuts that rest without a deadline */
-    uint32_t loners;             /* threads that wait until nobody is live, to start one alone */
-    bool is_alone;               /* whether the live one is to stay alone */
     uint32_t asked;              /* threads that are asked whether they are interrupted */
     bool abandons;               /* whether a live transaction is abandoned */
     bool allows_cut;             /* whether the hook before a cut has not refused it */
-    uint64_t cut_at;             /* so many entries make a cut due */
-    uint64_t before_cut;         /* so many turns at least have to be made before it is */
-    bool pauses;                 /* starts wait for a cut that is due, until `pause` */
-    int64_t pause;
+    uint64_t before_cut;         /* so many turns at least have to be made before the plan's next cut is due */
     struct queue queue;
     sgt_ended ended;
     sgt_shared *next;            /* of those that are closed */

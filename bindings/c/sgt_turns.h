@@ -28,14 +28,13 @@ static bool reserve(struct queue *queue, size_t more)
 }
 
 /*
- * Hands on the call that a turn has just committed or refused: the next one of the list of sgt_calls. The hook is called when the thread
- * leaves, which it does in the same hold of the lock.
+ * Hands on the call that a turn has just committed or refused, if it has. The hook is called when the thread leaves, which it does in the
+ * same hold of the lock.
  */
-static void deliver(sgt_shared *s, uint64_t sequence)
+static void deliver(sgt_shared *s)
 {
-    sgt_ended ended = {.sequence = sequence};
-    uint64_t count = 0;
-    sgt_calls(&s->engine, s->read, &ended.call, 1, &count, &s->read);
+    sgt_ended ended = {0};
+    if (sgt_desk_hand_on(&s->engine, &s->feed, &ended.call, &ended.sequence) != SGT_OK) return;
     ended.ticket = ticket_of(s, ended.call.tid);
     if (ended.call.kind == SGT_COMMITTED) sgt_wrote(&s->engine, ended.call.tid, &ended.wrote);
     if (s->config.keeps_ended) {
@@ -51,11 +50,11 @@ static uint64_t sequence_of(const sgt_shared *s, const sgt_reply *reply)
     return reply->kind == SGT_COMMITTED || reply->kind == SGT_REFUSED ? s->desk.reported - 1 : UINT64_MAX;
 }
 
-/* Does what a turn asks for: hands on the call that it has committed or refused, if it has and somebody wants it, and wakes all. */
-static inline void after_turn(sgt_shared *s, uint64_t reported, uint32_t wakes)
+/* Does what a turn asks for: wakes all, and hands on the call that it has committed or refused, if somebody wants it. */
+static inline void after_turn(sgt_shared *s, uint32_t wakes)
 {
     if (s->before_cut > 0) s->before_cut--;
-    if (s->desk.reported != reported && (s->config.ended || s->config.keeps_ended)) deliver(s, reported);
+    if (s->config.ended || s->config.keeps_ended) deliver(s);
     if (wakes) wake_all(s);
 }
 
@@ -71,11 +70,10 @@ struct asked {
 static uint32_t make(sgt_shared *s, const sgt_ticket *ticket, const struct asked *it, sgt_reply *reply)
 {
     uint32_t wakes = 0;
-    const uint64_t reported = s->desk.reported;
     claim(s, ticket->tid);
     const uint32_t turn =
         sgt_desk_make(&s->engine, &s->desk, ticket->part, ticket->tid, it->kind, it->table, it->number, it->value, reply, &wakes);
-    after_turn(s, reported, wakes);
+    after_turn(s, wakes);
     if (turn == SGT_OK) drop_ended(s, ticket->tid, reply);
     return turn;
 }
@@ -153,10 +151,9 @@ static uint32_t commit(sgt_shared *s, const sgt_ticket *ticket, struct deadline 
     claim(s, ticket->tid);
     for (;;) {
         uint32_t wakes = 0;
-        const uint64_t reported = s->desk.reported;
         const uint32_t turn =
             sgt_desk_commit(&s->engine, &s->desk, &ask, ticket->part, ticket->tid, time_for(&ask), reply, &wakes);
-        after_turn(s, reported, wakes);
+        after_turn(s, wakes);
         if (turn == SGT_OK) drop_ended(s, ticket->tid, reply);
         if (turn == SGT_TIMED_OUT) reply->kind = SGT_WAITS, reply->tid = ask.first;
         if (turn != SGT_REST) return turn == SGT_TIMED_OUT ? late : turn;

@@ -3,6 +3,7 @@
 #ifndef SGT_HPP
 #define SGT_HPP
 
+#include <array>
 #include <chrono>
 #include <cstddef>
 #include <cstdint>
@@ -357,6 +358,14 @@ public:
         std::uint64_t count = 0;
         check(sgt_live_tids(&engine, tids, &count));
         return {tids, tids + count};
+    }
+
+    // Returns the three limits, as an opening has them: the most live transactions, the most starts, and when codes are reported.
+    std::array<std::uint64_t, 3> limits() const
+    {
+        std::array<std::uint64_t, 3> limits{};
+        check(sgt_limits(&engine, limits.data()));
+        return limits;
     }
 
     // Returns how often the history was cut. With this number, the number of a transaction is unique.
@@ -769,6 +778,14 @@ public:
         } while (count > rows.size());
         rows.resize(count);
         return rows;
+    }
+
+    // Returns the three limits, as `Engine::limits` does.
+    [[nodiscard]] std::array<std::uint64_t, 3> limits()
+    {
+        std::array<std::uint64_t, 3> limits{};
+        check(sgt_shared_limits(shared, limits.data()));
+        return limits;
     }
 
     // Returns the number of entries of the history since the last cut.

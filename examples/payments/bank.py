@@ -87,7 +87,7 @@ class Bank:
         self.engine.put_bytes(rows)
         self.numbers = {name: self.engine.procedure(text) for name, text in sorted(texts.items())}
 
-    def run(self, calls: bytes, entries: Sequence[str]) -> tuple[bytes, list[str]]:
+    def run(self, calls: bytes, entries: Sequence[Any]) -> tuple[bytes, list[Any]]:
         """Runs packed calls one after another, each as a transaction of its own. Their packed outcomes, and the entries of those that wrote."""
         if self.noted is not None:
             self.noted.append(calls)

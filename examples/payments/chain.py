@@ -53,10 +53,8 @@ class Chain:
     def start(self) -> None:
         """Recovers. Returns once the bank is as the journal was, and has this server's procedures."""
         self.stored(self.number)
-        self.insist(self._lead_or_read)
-        while not self.bank.texts and not self.ends:  # the primary has not begun yet
+        while self.insist(self._lead_or_read) or not (self.bank.texts or self.ends):  # the primary has not begun yet
             time.sleep(PAUSE)
-            self.insist(self._lead_or_read)
         self._compare()
 
     def insist(self, ask: Callable[[], Any]) -> Any:
@@ -89,7 +87,7 @@ class Chain:
 
     def follow(self) -> None:
         """A follower reads on now and then, and becomes the primary if there is none. It answers while the journal is away, too."""
-        if time.monotonic() < self._next:
+        if self.leads or time.monotonic() < self._next:
             return
         self.trouble = ""
         try:
@@ -122,7 +120,8 @@ class Chain:
 
     def append(self, calls: Union[list[str], Opening]) -> None:
         """Returns once the calls of these entries are safe, which follow call `seq`. They have run already, but for those of an opening."""
-        for part in [calls[at : at + CALLS] for at in range(0, len(calls), CALLS)] if isinstance(calls, list) and calls else [calls]:
+        for at in range(0, max(1, len(calls)), CALLS):
+            part: Union[Sequence[str], Opening] = calls[at : at + CALLS] if isinstance(calls, list) else calls
             number, data = self.number + 1, seal_batch(self.number + 1, self.seq, part)
             self.insist(lambda: self.journal.append(number, data))
             self.number, self.seq = number, self.seq + (len(part) if isinstance(part, list) else 0)

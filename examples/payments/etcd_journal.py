@@ -27,7 +27,8 @@ class Nodes:
     """The nodes of etcd: one is asked until it fails, and then the next one."""
 
     def __init__(self, nodes: list[str]) -> None:
-        self.nodes, self._channel = nodes, None  # it connects late, after the server has forked its fronts
+        self.nodes = nodes
+        self._channel: Any = None  # it connects late, after the server has forked its fronts
 
     def ask(self, name: str, request: Any) -> Any:
         """What etcd replies to a request. `Away` if no node does."""

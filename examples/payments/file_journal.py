@@ -2,6 +2,7 @@
 
 import os
 import pathlib
+import threading
 import time
 from bisect import bisect_right
 from typing import BinaryIO, Optional
@@ -16,8 +17,7 @@ class FileJournal:
     """The batches of one server, who leads always: its folder is its own."""
 
     def __init__(self, folder: pathlib.Path, keep: bool = False) -> None:
-        self.folder, self.keep, self._newest = folder, keep, folder / "newest"
-        self.report = ""
+        self.folder, self.keep, self._newest, self.report = folder, keep, folder / "newest", ""
         self._file: Optional[BinaryIO] = None  # the last one, if this server leads
 
     def paths(self) -> list[pathlib.Path]:
@@ -70,13 +70,12 @@ class FileJournal:
         return lines[number - firsts[at] :]
 
     def stored(self, server: str, number: int, after: int) -> None:
-        """Goes on in a new file, and deletes the files of which no batch is needed."""
+        """Goes on in a new file, and deletes the files of which no batch is needed. Threads do that, as a large one takes a quarter of a second."""
         if not self._file or number < int(self.paths()[-1].stem):
             return
         self._begin(after)
-        for path, later in zip(self.paths(), self.paths()[1:]):
-            if int(later.stem) <= number + 1 and not self.keep:
-                path.unlink()
+        for path in [path for path, later in zip(self.paths(), self.paths()[1:]) if int(later.stem) <= number + 1 and not self.keep]:
+            threading.Thread(target=path.unlink).start()
 
     def _begin(self, number: int) -> None:
         path = self.folder / f"{number:015}.batches"

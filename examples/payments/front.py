@@ -3,7 +3,6 @@
 import contextlib
 import marshal
 import os
-import pathlib
 import resource
 import select
 import signal
@@ -15,20 +14,14 @@ from multiprocessing.connection import Connection, Pipe
 from multiprocessing.reduction import recv_handle
 from typing import Optional
 
-from bank import OUTCOME, Procedure, Unusable
-from lines import LONGEST, Line, Reader, Request, Rights, Tokens
+from bank import OUTCOME, Procedure
+from lines import LONGEST, Client, Line, Reader, Request, Tokens
 from sgt import pack_calls
 
 FRONTS = 3  # processes: each waits while the server runs what it has asked, so they are more than are busy at a time
 CLIENTS = 1000  # of a front, or fewer if it may open fewer files. Others wait until one of them has gone, or another front takes them
 OTHER_FILES = 32  # that a front has open, at most
-
-
-class Client:
-    """A client: the beginning of a line, when its last whole one came, and what it may ask for."""
-
-    def __init__(self, link: socket.socket, since: float, rights: Rights) -> None:
-        self.link, self.heard, self.since, self.rights = link, b"", since, rights
+AT_ONCE, PART, PAUSE = 64, 16_384, 0.05  # at most: how many clients a front hears at once, bytes of each, and seconds in which it waits for more
 
 
 class Front:
@@ -36,7 +29,8 @@ class Front:
 
     def __init__(self, listeners: list[socket.socket], server: Connection, reader: Reader, idle: float, tls: Optional[ssl.SSLContext]) -> None:
         """The first listener is its own. Who waits at the others, as their fronts are full, is taken now and then."""
-        self.listeners, self.server, self.reader, self.idle, self.tls = listeners, server, reader, idle, tls
+        # And how many clients the last turn had, and until when the next one waits for as many.
+        self.listeners, self.server, self.reader, self.idle, self.tls, self.asked, self.until = listeners, server, reader, idle, tls, 0, 0.0
         self.now = self.swept = time.monotonic()
         self.clients: dict[int, Client] = {}
         self.most = max(1, min(CLIENTS, resource.getrlimit(resource.RLIMIT_NOFILE)[0] - OTHER_FILES))
@@ -60,23 +54,20 @@ class Front:
     def turn(self) -> None:
         """Waits for lines, has the server run what they ask, and replies."""
         asked = self.wait()
-        replies: dict[int, str] = {}
-        reported = iter(self.reported([it for _, line in asked for it in (line if type(line) is list else (line,))]))
-        for number, line in asked:
-            text = f"[{', '.join(islice(reported, len(line)))}]\n" if type(line) is list else next(reported) + "\n"
-            replies[number] = replies.get(number, "") + text
-        for number, reply in replies.items():
-            try:
-                self.clients[number].link.sendall(reply.encode())
-            except OSError:  # it is gone, or takes no replies; it can ask again with its id
-                self.drop(number)
+        reported = iter(self.reported([it for _, lines in asked for line in lines for it in (line if type(line) is list else (line,))]))
+        # Where the server takes many milliseconds, as by a slow journal, larger batches are worth a wait.
+        self.asked, self.until = min(len(asked), AT_ONCE), (now := time.monotonic()) + min((now - self.now) / 2 - 0.001, PAUSE)
+        for client, lines in asked:
+            texts = [f"[{', '.join(islice(reported, len(line)))}]" if type(line) is list else next(reported) for line in lines]
+            client.unsent = "\n".join([*texts, ""]).encode()
+            self.go_on(client)  # if it does not take them it can ask again, with its ids
 
     def reported(self, requests: list[Request]) -> list[str]:
         """The reply to each request."""
         calls = [it for it in requests if type(it) is tuple]
         words = [it for it in requests if type(it) is dict]
         if not calls and not words:
-            return requests  # they are replies
+            return [it for it in requests if isinstance(it, str)]  # they are replies
         packed = pack_calls([(self.numbers[procedure.name], *args) for procedure, args in calls])
         self.server.send_bytes(marshal.dumps((packed, [procedure.entry % args for procedure, args in calls], words)))
         replied, at = memoryview(self.server.recv_bytes()), len(calls) * OUTCOME.size
@@ -84,18 +75,19 @@ class Front:
         reported = iter([procedure.reply(outcome, args[0], age) for (procedure, args), outcome in zip(calls, OUTCOME.iter_unpack(replied[:at]))])
         return [next(reported) if type(it) is tuple else it if type(it) is str else of_words.pop(0) for it in requests]
 
-    def wait(self) -> list[tuple[int, Line]]:
-        """The next lines, with the numbers of their clients. Meanwhile clients come and go."""
-        asked: list[tuple[int, Line]] = []
-        while not asked:
-            ready, self.now = self.poll.poll(self.idle / 4), time.monotonic()
+    def wait(self) -> list[tuple[Client, list[Line]]]:
+        """The next lines of some clients. Meanwhile clients come and go, but none of these: nothing more is read of them before they have replies."""
+        asked: list[tuple[Client, list[Line]]] = []
+        while not asked or (len(asked) < self.asked and self.now < self.until):
+            self.poll.modify(self.listeners[0], select.EPOLLIN * (len(self.clients) < self.most))
+            ready, self.now = self.poll.poll(self.until - self.now if asked else self.idle / 4, AT_ONCE), time.monotonic()
             for number, _ in ready:
-                if number == self.listeners[0].fileno():
-                    self.accept(self.listeners[0])
+                if client := self.clients.get(number):
+                    asked += [(client, lines)] if (lines := self.go_on(client)) else []
                 elif number == self.server.fileno():
                     raise EOFError
                 else:
-                    asked += [(number, line) for line in self.receive(number)]
+                    self.accept(self.listeners[0])
             if self.now >= self.swept + self.idle / 4:
                 self.sweep()
         return asked
@@ -105,61 +97,52 @@ class Front:
         try:
             link, _ = listener.accept()
             link.setblocking(False)
-            if self.tls:
-                link = self.tls.wrap_socket(link, server_side=True, do_handshake_on_connect=False)
+            link = self.tls.wrap_socket(link, server_side=True, do_handshake_on_connect=False) if self.tls else link
         except OSError:
             return False  # another front has it, or it is gone
-        self.poll.register(link, select.EPOLLIN)
+        self.poll.register(link, select.EPOLLIN | select.EPOLLONESHOT)
         self.clients[link.fileno()] = Client(link, self.now, self.reader.first_rights)
-        if len(self.clients) == self.most:
-            self.poll.unregister(self.listeners[0])
         return True
 
-    def drop(self, number: int) -> None:
-        if len(self.clients) == self.most:
-            self.poll.register(self.listeners[0], select.EPOLLIN)
-        self.clients.pop(number).link.close()
+    def drop(self, client: Client) -> list[Line]:
+        """A client that is gone, or is to go, has no lines."""
+        self.clients.pop(client.link.fileno(), None)
+        client.link.close()
+        return []
 
     def sweep(self) -> None:
         """Drops the clients that have asked nothing for so long: parts of a line do not count. Takes those who wait for full fronts."""
         self.swept = self.now
-        for number in [number for number, it in self.clients.items() if it.since < self.now - self.idle]:
-            self.drop(number)
+        for client in [it for it in self.clients.values() if it.since < self.now - self.idle]:
+            self.drop(client)
         for listener in self.listeners[1:]:
             while len(self.clients) < self.most and self.accept(listener):
                 pass
 
-    def receive(self, number: int) -> list[Line]:
-        """The lines that have come from a client. One that is gone is dropped. Of a line that is too long only the beginning is kept."""
-        client = self.clients[number]
-        try:
-            data = client.link.recv(65_536)
-        except (BlockingIOError, ssl.SSLWantReadError, ssl.SSLWantWriteError):
-            return []  # a part of what TLS needs
-        except OSError:
-            data = b""
-        if not data:
-            self.drop(number)
-            return []
-        *texts, heard = (client.heard + data).split(b"\n")
-        client.heard = heard[: LONGEST + 1]
+    def go_on(self, client: Client) -> list[Line]:
+        """Sends what a client takes now of its replies, or if it has all of them, hears its next lines. One that is gone is dropped."""
         lines: list[Line] = []
-        for text in texts:
-            line, client.rights = self.reader.read(text, client.rights)
-            lines.append(line)
-        client.since = self.now if lines else client.since
+        try:
+            if client.unsent:
+                client.unsent = client.unsent[client.link.send(client.unsent) :]
+            else:
+                lines = self.hear(client, client.link.recv(PART))
+        except (BlockingIOError, ssl.SSLWantReadError, ssl.SSLWantWriteError):
+            pass  # it takes no more now, or this was a part of what TLS needs
+        except OSError:
+            return self.drop(client)
+        if not lines:
+            self.poll.modify(client.link, (select.EPOLLOUT if client.unsent else select.EPOLLIN) | select.EPOLLONESHOT)
         return lines
 
-
-def load_tls(folder: pathlib.Path) -> ssl.SSLContext:
-    """TLS by two files: server.pem has the server's key and certificate, and clients.pem the authorities whose clients it takes."""
-    try:
-        tls = ssl.create_default_context(ssl.Purpose.CLIENT_AUTH, cafile=folder / "clients.pem")
-        tls.load_cert_chain(folder / "server.pem")
-    except OSError as why:
-        raise Unusable(f"{folder}: server.pem and clients.pem: {why}") from None
-    tls.verify_mode = ssl.CERT_REQUIRED
-    return tls
+    def hear(self, client: Client, data: bytes) -> list[Line]:
+        """The whole lines that a client has sent. Of one that is too long only the beginning is kept."""
+        if not data:
+            raise ConnectionResetError
+        *texts, heard = (client.heard + data).split(b"\n")
+        client.heard = heard[: LONGEST + 1]
+        client.since = self.now if texts else client.since
+        return [self.reader.read(text, client) for text in texts]
 
 
 def listen(host: str, port: int) -> list[socket.socket]:

@@ -5,6 +5,7 @@ import fcntl
 import json
 import os
 import pathlib
+import shutil
 import threading
 import time
 import zlib
@@ -98,10 +99,11 @@ def from_number(number: int, batches: list[bytes]) -> list[bytes]:
 def store(path: pathlib.Path, *parts: bytes) -> None:
     """Writes a new file, which is on disk when this returns. Until then it has the suffix .new."""
     new = path.with_suffix(".new")
-    with open(new, "wb", opener=lambda name, flags: os.open(name, flags, 0o600)) as file:
-        file.writelines(parts)
-        file.flush()
-        os.fsync(file)
+    with open(new, "wb", 0, opener=lambda name, flags: os.open(name, flags, 0o600)) as file:
+        for part in map(memoryview, parts):
+            while part:
+                part = part[file.write(part[: 1 << 23]) :]  # in pieces: a batch that is made safe meanwhile waits for one at most
+                os.fsync(file)
     new.rename(path)
     sync_names(path.parent)
 
@@ -147,8 +149,8 @@ class Store:
         """The bank after this batch. After batch 0 it is empty. `Unusable` if the snapshot is damaged."""
         if number == 0:
             return Bank(0, {}, b"")
-        with open(self.path(number), "rb") as file:
-            header, rows = file.readline(), file.read()
+        with open(self.path(number), "rb", 0) as file:  # without a buffer: else all is copied, in which no other thread runs
+            header, rows = file.readline(), file.readall()
         seq, texts, length, checksum = unseal(header[:-1]) or [0, {}, 0, -1]
         if length != len(rows) or zlib.crc32(rows) != checksum:
             raise Unusable(f"{self.path(number)}: the snapshot is damaged")
@@ -158,7 +160,9 @@ class Store:
         """Stores the bank after this batch, and deletes the snapshots before it, unless they are to be kept. Or says why it can't."""
         try:
             rows = bank.rows()
-            store(self.path(number), seal(json.dumps([bank.seq, bank.texts, len(rows), zlib.crc32(rows)])), b"\n", rows)
+            if 2 * shutil.disk_usage(self.folder).free < 3 * len(rows):
+                raise OSError("it would take most of what is free on the disk, which the journal may need")
+            store(self.path(number), seal(json.dumps([bank.seq, bank.texts, len(rows), zlib.crc32(rows)])) + b"\n", rows)
         except (OSError, MemoryError) as why:
             self.path(number).with_suffix(".new").unlink(missing_ok=True)
             return f"no snapshot {self.path(number)}: {why}"

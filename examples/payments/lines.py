@@ -25,6 +25,13 @@ Request = Union[tuple[Procedure, tuple[int, ...]], dict[str, int], str]
 Line = Union[Request, list[Request]]  # a list of requests is answered by a list
 
 
+class Client:
+    """A client: the beginning of a line, replies that it has not taken yet, when its last whole line came, and what it may ask for."""
+
+    def __init__(self, link: Any, since: float, rights: Rights) -> None:
+        self.link, self.heard, self.unsent, self.since, self.rights = link, b"", b"", since, rights
+
+
 class Reader:
     """Reads the lines of clients, or of administrators."""
 
@@ -34,24 +41,23 @@ class Reader:
         served = [it for it in procedures.values() if it.request and (is_for_administrators or not it.is_for_administrators)]
         orders = [(keys, it, [*map(keys.index, it.request)]) for it in served for keys in permutations(it.request)]
         # By the keys of a request, in any order: its procedure, and what takes the arguments out of its values.
-        self.requests = {keys: (it, itemgetter(*places) if places != sorted(places) else tuple) for keys, it, places in orders}
+        self.requests: dict[Any, tuple[Procedure, Any]] = {keys: (it, itemgetter(*places) if places != sorted(places) else tuple) for keys, it, places in orders}
 
-    def read(self, line: bytes, rights: Rights) -> tuple[Line, Rights]:
-        """What a line asks for, and the rights of its client from then on."""
+    def read(self, line: bytes, client: Client) -> Line:
+        """What a line of a client asks for. With a token the client has that one's rights from then on."""
         if len(line) > LONGEST:
-            return TOO_LONG, rights
+            return TOO_LONG
         try:
             asked, end = read_json(text := line.strip().decode())
         except (ValueError, RecursionError):
-            return NO_REQUEST, rights
-        if not asked or end < len(text):
-            return NO_REQUEST, rights
-        if type(asked) is list:
-            return [self.request(it, rights) for it in asked], rights
+            return NO_REQUEST
+        asked = asked if end == len(text) else None
+        if type(asked) is list and asked:
+            return [self.request(it, client.rights) for it in asked]
         if type(asked) is tuple and len(asked) == 1 and asked[0][0] == "token" and isinstance(asked[0][1], str) and self.tokens is not None:
-            found = self.tokens.get(hashlib.sha256(asked[0][1].encode(errors="replace")).hexdigest())
-            return '{"token": true}' if found else NO_RIGHT, found or {}
-        return self.request(asked, rights), rights
+            client.rights = self.tokens.get(hashlib.sha256(asked[0][1].encode(errors="replace")).hexdigest()) or {}
+            return '{"token": true}' if client.rights else NO_RIGHT
+        return self.request(asked, client.rights)
 
     def request(self, pairs: Any, rights: Rights) -> Request:
         """What an object asks for."""
@@ -78,8 +84,8 @@ def may(rights: dict[str, list[list[int]]], procedure: Procedure, asked: dict[st
 def load_tokens(path: pathlib.Path) -> dict[str, Rights]:
     """The file of tokens: for the SHA-256 of each token the rights, as {"pay": [[1, 9]], "read": [[1, 9], [20, 20]]}."""
     try:
-        tokens: dict[str, Rights] = json.loads(path.read_text())
-        [(int(first), int(last)) for it in tokens.values() for accounts in dict(it or 0).values() for first, last in accounts]
-        return tokens
+        tokens: Any = json.loads(path.read_text())
+        [0 <= first <= last for it in tokens.values() for accounts in it.values() for first, last in accounts]
+        return dict(tokens)
     except (ValueError, TypeError, AttributeError) as why:
         raise Unusable(f"{path}: no file of tokens: {why}") from None

@@ -2,8 +2,10 @@
 """A durable queue of payments on sgt. README.md beside this file has the idea, and how to run it."""
 
 import argparse
+import os
 import pathlib
 import socket
+import ssl
 import sys
 import time
 from importlib import import_module
@@ -14,7 +16,7 @@ from audit import show, verify
 from bank import Unusable, load_procedures
 from chain import Chain
 from file_journal import FileJournal
-from front import load_tls, start_fronts
+from front import start_fronts
 from journal import Journal, Store
 from lines import load_tokens
 from running import end_by_signals, run
@@ -32,6 +34,17 @@ def open_journal(words: argparse.Namespace) -> Journal:
         return journal
     except (ImportError, ValueError, KeyError) as why:
         raise Unusable(f"{words.journal}: no address of a journal here: {why}") from None
+
+
+def load_tls(folder: pathlib.Path) -> ssl.SSLContext:
+    """TLS by two files: server.pem has the server's key and certificate, and clients.pem the authorities whose clients it takes."""
+    try:
+        tls = ssl.create_default_context(ssl.Purpose.CLIENT_AUTH, cafile=folder / "clients.pem")
+        tls.load_cert_chain(folder / "server.pem")
+    except OSError as why:
+        raise Unusable(f"{folder}: server.pem and clients.pem: {why}") from None
+    tls.verify_mode = ssl.CERT_REQUIRED
+    return tls
 
 
 def serve(words: argparse.Namespace, journal: Journal) -> None:
@@ -52,6 +65,8 @@ def serve(words: argparse.Namespace, journal: Journal) -> None:
 
 
 def main() -> None:
+    if "GLIBC_TUNABLES" not in os.environ:  # so memory comes in huge pages, of which a cut has fewer to copy
+        os.execve(sys.executable, [sys.executable, *sys.argv], {**os.environ, "GLIBC_TUNABLES": "glibc.malloc.hugetlb=1"})
     parser = argparse.ArgumentParser(description=__doc__)
     parser.add_argument("command", choices=("serve", "show", "verify"))
     parser.add_argument("folder", type=pathlib.Path, help="of this server: its snapshots, and the journal if it has no address")

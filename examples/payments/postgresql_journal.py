@@ -16,8 +16,7 @@ from journal import AT_ONCE, LEASE, Away, Fenced, from_number, keep_alive, neede
 
 AT_SAME_TIME = {"23505", "42P07", "42710"}  # codes of errors where two servers make the tables at the same time: there is one already
 TABLES = """
-set synchronous_commit = on;
-create table if not exists batch (number bigint primary key, data bytea not null);
+set synchronous_commit = on; create table if not exists batch (number bigint primary key, data bytea not null);
 create table if not exists leader (only_row boolean primary key, nonce text not null, until timestamptz not null);
 create table if not exists stored (server text primary key, number bigint not null); show fsync"""
 LEAD = f"""
@@ -26,8 +25,7 @@ do update set nonce = excluded.nonce, until = excluded.until where leader.until 
 RENEW = f"update leader set until = now() + interval '{LEASE} s' where nonce = %(nonce)s returning 1"
 APPEND = """
 with ours as (select 1 from leader where nonce = %(nonce)s for share)
-insert into batch select %(at)s, %(data)s from ours on conflict (number) do update set data = batch.data where batch.data = excluded.data
-returning 1"""
+insert into batch select %(at)s, %(data)s from ours on conflict (number) do update set data = batch.data where batch.data = excluded.data returning 1"""
 
 
 class PostgresJournal:
@@ -54,8 +52,7 @@ class PostgresJournal:
             raise Unusable(f"PostgreSQL: {why}") from None
 
     def lead(self) -> bool:
-        leads = bool(self._ask(LEAD, nonce=self._nonce))
-        if leads:
+        if leads := bool(self._ask(LEAD, nonce=self._nonce)):
             keep_alive(partial(PostgresJournal(self.address)._ask, RENEW, nonce=self._nonce))
         return leads
 

@@ -3,11 +3,10 @@
 import hashlib
 import json
 import marshal
-import os
 import select
 import time
 from concurrent.futures import Future, ThreadPoolExecutor
-from multiprocessing.connection import Connection
+from multiprocessing.connection import Connection, Pipe
 from typing import Any, Optional, Sequence
 
 from bank import NO_PROCEDURE, ROW, Procedure
@@ -25,13 +24,14 @@ class Server:
 
     def __init__(self, chain: Chain, fronts: list[Connection], procedures: dict[str, Procedure]) -> None:
         self.chain, self.fronts, self.procedures = chain, fronts, procedures
-        self.entries: list[str] = []  # of calls that ran, and are in no group yet
-        self.groups, self.appended = list[Group](), list[Group]()  # what has run, and what is being made safe
-        self.appender, (self.is_safe, self.says_so) = ThreadPoolExecutor(1), os.pipe()
+        # The entries of calls that ran, and are in no group yet; what has run; what is being made safe; and the fronts of the last batch.
+        self.entries, self.groups, self.appended, self.latest = list[str](), list[Group](), list[Group](), set[Optional[Connection]]()
+        self.appender, (self.is_safe, self.says_so) = ThreadPoolExecutor(1), Pipe(duplex=False)
         self.appends: Optional[Future[None]] = None  # an append by a thread, which says by a byte that it is done
-        self.is_marked, self.day, self.trouble = True, -1, ""  # the trouble is of the last snapshot
-        self.forgot: Optional[int] = -1  # the day of the bank on which no old id was left
-        self.began, self.calls, self.batches, self.appending = time.monotonic(), 0, 0, 0.0
+        # The trouble of the last snapshot; and the day of the bank on which no old id was left.
+        self.is_marked, self.day, self.trouble, self.forgot = True, -1, "", -1
+        # When the last replies were sent, and how many fronts the last two batches were of. Since the start: calls, batches, and their seconds.
+        self.began, self.replied, self.asked, self.calls, self.batches, self.appending = time.monotonic(), 0.0, 0, 0, 0, 0.0
         self.words = {"rows": self.rows, "health": self.health, "figures": self.figures, "day": self.set_day}  # what administrators may ask
         self.writers = {chain.bank.numbers[name] for name, it in procedures.items() if it.writes}
         for front in fronts:
@@ -39,18 +39,21 @@ class Server:
 
     def turn(self) -> None:
         """Waits for requests, runs what has come in, and replies to what is safe."""
-        ready = select.select([self.is_safe, *self.fronts], (), (), IDLE if self.chain.leads else PAUSE)[0]
-        if not self.chain.leads:
-            self.chain.follow()
+        ready, begin = select.select([self.is_safe, *self.fronts], (), (), IDLE if self.chain.leads else PAUSE)[0], time.monotonic()
+        self.chain.follow()
         self.begin_day()
         try:
-            for it in ready:
-                if it is self.is_safe:
-                    self.reply()
-                else:
-                    self.serve(it, *marshal.loads(it.recv_bytes()))
             if not ready:
                 self.mark()
+            while ready:
+                for it in ready:
+                    if it is self.is_safe:
+                        self.reply()
+                    else:
+                        self.serve(it, *marshal.loads(it.recv_bytes()))
+                # What has come in meanwhile shares the append, unless to run this has taken as long: then fronts had better have these replies.
+                is_early = (time.monotonic() - begin) * self.batches < self.appending
+                ready = select.select([self.is_safe, *self.fronts], (), (), self.rest())[0] if is_early else []
             self.begin_append()
         except (EOFError, ConnectionError):
             raise OSError("a front process has ended") from None
@@ -82,12 +85,12 @@ class Server:
         if self.groups and not self.appended:
             self.appended, self.groups = self.groups, []
             parts = [it for it, _, _ in self.appended if it is not None]
-            if self.appending <= QUICK * self.batches:
+            if self.appending > QUICK * self.batches:
+                self.appends = self.appender.submit(self.append, parts)
+                self.appends.add_done_callback(lambda _: self.says_so.send_bytes(b"."))
+            else:
                 self.append(parts)
                 self.reply()
-            else:
-                self.appends = self.appender.submit(self.append, parts)
-                self.appends.add_done_callback(lambda _: os.write(self.says_so, b"."))
 
     def append(self, parts: list[list[str]]) -> None:
         begin = time.monotonic()
@@ -100,11 +103,17 @@ class Server:
     def reply(self) -> None:
         """Replies to what is safe, once it is. Nothing is told before: a refusal or a balance may rest on a call that ran before it."""
         if self.appends:
-            os.read(self.is_safe, 1)
+            self.is_safe.recv_bytes()
             self.appends = self.appends.result()  # none, or raises what the append has failed with
         for front, reply in [(front, reply) for _, front, reply in self.appended if front]:
             front.send_bytes(reply)
-        self.appended = []
+        self.asked = len((fronts := {front for _, front, _ in self.appended}) | self.latest)
+        self.latest, self.replied, self.appended = fronts, time.monotonic(), []
+
+    def rest(self) -> float:
+        """Where an append takes long: how long the next one waits for the fronts that asked lately. Half an append, at most."""
+        waits = self.groups and not self.appended and len(self.groups) < self.asked and self.appending > QUICK * self.batches
+        return max(0.0, self.replied + self.appending / self.batches / 2 - time.monotonic()) if waits else 0.0
 
     def flush(self) -> None:
         """Returns once all that has run is safe, and replied to."""
@@ -132,7 +141,9 @@ class Server:
 
     def health(self, _: int) -> dict[str, Any]:
         """What an operator should look after, or ok. That there is a reply says that batches become safe, as each reply waits for that."""
-        reported = "; ".join(filter(None, (self.chain.trouble, self.trouble, self.trouble_of_clock()))) or "ok"
+        clock, day = today(), self.chain.bank.day()  # a follower may get the next day a moment late
+        jumped = "" if day is None or clock - day in (0, 1) else f"the clock says day {clock}, and the bank has day {day}"
+        reported = "; ".join(filter(None, (self.chain.trouble, self.trouble, jumped))) or "ok"
         return {"health": reported, "leads": self.chain.leads, "seq": self.chain.bank.seq, "batch": self.chain.number}
 
     def figures(self, _: int) -> dict[str, Any]:
@@ -152,14 +163,9 @@ class Server:
 
     def forget(self) -> None:
         """Has the bank forget old ids, at most twice as many as calls that wrote. So they do not pile up, and nobody waits for long."""
-        if (calls := len(self.entries)) and self.forgot != (day := self.chain.bank.day()):
+        if (calls := len(self.entries)) and self.forgot != (day := self.chain.bank.day() or 0):
             self.call("forget", times=2 * calls)
             self.forgot = day if len(self.entries) == calls else self.forgot
-
-    def trouble_of_clock(self) -> str:
-        """Whether the bank has another day than the clock. A follower may get the next day a moment late."""
-        clock, day = today(), self.chain.bank.day()
-        return "" if day is None or clock - day in (0, 1) else f"the clock says day {clock}, and the bank has day {day}"
 
     def set_day(self, day: int) -> dict[str, Any]:
         """The day as an operator says it, whatever the clock says; with true in place of a number the day as it is."""

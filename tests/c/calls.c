@@ -347,7 +347,7 @@ static int explains(const char *said, uint32_t status, const char *text, const u
 /* Why a text is refused is reported in words: whole if it fits, else its length alone; nothing is reported for a text that is accepted. */
 static void refusals_are_explained(void)
 {
-    const char shape_error[] = "procedure 5, at 1 0: expected a statement, found 7";
+    const char shape_error[] = "procedure 5, at 1 0: expected a statement, found 7: a statement is a list that starts with its word, as [\"ask\",7]";
     const char code[] = "procedure 6, at 1 0 1: expected a code from 1 to 999, found \"a\"";
     const char flaw[] = "procedure 5, at 1 0 1: code 0 is not from 1 to 999";
     const char limit[] = "\"limits\": the first number is 33, and has to be from 1 to 32";
@@ -363,7 +363,7 @@ static void refusals_are_explained(void)
     CHECK(explains(code, PROCEDURE(6, "[0,[[\"ask\",\"a\"]]]", sizeof text), text, &length));
     CHECK(explains(flaw, PROCEDURE(5, "[0,[[\"ask\",0]]]", sizeof text), text, &length));
     CHECK(explains(limit, OPENING("{\"limits\":[33,100],\"accounts\":[],\"procedures\":[]}", sizeof text), text, &length));
-    CHECK(explains("column 1: not JSON from here", PROCEDURE(0, "nope", sizeof text), text, &length));
+    CHECK(explains("column 1: not JSON from here: a word stands in double quotes", PROCEDURE(0, "nope", sizeof text), text, &length));
     CHECK(sgt_explain_opening(0, 0, 0, 0, &length) == 0 && length > 0);
     CHECK(sgt_explain_opening(0, 1, text, sizeof text, &length) == 5 && sgt_explain_procedure(0, 0, 1, text, sizeof text, &length) == 5);
     CHECK(sgt_explain_opening(shape, 1, 0, 1, &length) == 5);
@@ -784,6 +784,7 @@ static void null_pointers_are_reported(void)
     uint32_t tids[32];
     CHECK(sgt_live_tids(0, tids, &count) == 2 && sgt_live_tids(&engine, 0, &count) == 5 && sgt_live_tids(&engine, tids, 0) == 5);
     CHECK(sgt_wrote(0, 0, &t) == 2 && sgt_wrote(&engine, 0, 0) == 5);
+    CHECK(sgt_limits(0, (uint64_t[3]){0}) == 2 && sgt_limits(&engine, 0) == 5);
     CHECK(sgt_entry(0, 0, &event, &reported) == 2);
     CHECK(sgt_entry(&engine, 0, 0, &reported) == 5 && sgt_entry(&engine, 0, &event, 0) == 5);
     CHECK(sgt_calls(0, 0, &call, 1, &count, &next) == 2);
@@ -865,6 +866,7 @@ static void a_busy_engine_is_left_alone(void)
     CHECK(sgt_records(&engine, &count) == 10);
     CHECK(sgt_live_tids(&engine, (uint32_t[32]){0}, &count) == 10);
     CHECK(sgt_wrote(&engine, 0, &t) == 10);
+    CHECK(sgt_limits(&engine, (uint64_t[3]){0}) == 10);
     CHECK(sgt_entries(&engine, &count) == 10);
     CHECK(sgt_entry(&engine, 0, &event, &reported) == 10);
     CHECK(sgt_calls(&engine, 0, &call, 1, &count, &next) == 10);
@@ -918,7 +920,7 @@ static void an_engine_is_opened_bare(void)
     sgt_reply reported = {0};
     uint16_t number = 77;
     uint32_t t = 0;
-    uint64_t at = 0, count = 77;
+    uint64_t at = 0, count = 77, limits[3] = {0};
     CHECK(sgt_open_bare(&engine, 0, 100, 1) == 18);
     CHECK(sgt_open_bare(&engine, 33, 100, 1) == 18);
     CHECK(sgt_open_bare(&engine, 8, 0, 1) == 18);
@@ -930,6 +932,7 @@ static void an_engine_is_opened_bare(void)
     CHECK(sgt_wrote(&engine, 0, &t) == 2);
     CHECK(!engine.is_open && count == 77);
     CHECK(sgt_open_bare(&engine, 8, 2, 1) == 0);
+    CHECK(sgt_limits(&engine, limits) == 0 && limits[0] == 8 && limits[1] == 2 && limits[2] == 1);
     CHECK(sgt_open_bare(&engine, 0, 100, 1) == 3);
     CHECK(sgt_records(&engine, &count) == 0);
     CHECK(count == 0);
@@ -947,7 +950,9 @@ static void an_engine_is_opened_bare(void)
     CHECK(sgt_run(&engine, 0, there, 1, &t, &reported) == 0);
     CHECK(reported.kind == 4);
     sgt_close(&engine);
+    CHECK(sgt_limits(&engine, limits) == 2);
     CHECK(sgt_open_bare(&engine, 32, UINT64_C(4000000000), 0) == 0);
+    CHECK(sgt_limits(&engine, limits) == 0 && limits[0] == 32 && limits[1] == UINT64_C(4000000000) && limits[2] == 0);
     CHECK(adds(&engine, lookup, &number, &fault) == 0);
     CHECK(sgt_run(&engine, 0, absent, 1, &t, &reported) == 0);
     CHECK(reported.kind == 14 && reported.cause == 2 && reported.code == 5);

@@ -428,6 +428,7 @@ static void a_full_engine_is_waited_for(void)
     CHECK(reader.status == SGT_OK && reader.outcome.reply.kind == SGT_COMMITTED && reader.outcome.waits == 1);
     CHECK(sgt_shared_entries(shared, &entries, &part) == SGT_OK && entries > 0 && part == 0);
     CHECK(sgt_shared_entries(shared, 0, 0) == SGT_BAD_CALL);
+    CHECK(sgt_shared_limits(shared, 0) == SGT_BAD_CALL && sgt_shared_limits(0, (uint64_t[3]){0}) == SGT_CLOSED);
     CHECK(sgt_shared_quit(shared, &second, &reply) == SGT_OK);
     closes(shared);
 }

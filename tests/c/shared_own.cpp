@@ -231,9 +231,11 @@ static void engines_are_taken_over()
 {
     auto prepared = sgt::Engine::bare(2, 100);
     prepared.put(rows);
+    const std::array<std::uint64_t, 3> limits{2, 100, 1};
+    CHECK(prepared.limits() == limits);
     CHECK(prepared.procedure(R"([0,[["put",2,101,11]]])") == 0 && prepared.procedure(R"([0,[["look",0,2,101,6]]])") == 1);
     sgt::SharedEngine bank(std::move(prepared));
-    CHECK(throws<std::logic_error>([&] { prepared.rows(); }));
+    CHECK(throws<std::logic_error>([&] { prepared.rows(); }) && bank.limits() == limits);
     auto writer = bank.start(0, {}).first, reader = bank.start(1, {}).first;
     CHECK(writer->step().kind == SGT_WROTE && reader->step().kind == SGT_LOOKED && reader->step().kind == SGT_ENDED);
     CHECK(!reader->waits_for());

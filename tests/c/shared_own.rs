@@ -243,7 +243,9 @@ fn takes_over() -> Result<(), Error> {
     let mut engine = Engine::open_bare(2, 100, true)?;
     engine.put(&[Row { table: TABLE, number: 101, value: 10 }])?;
     assert_eq!((engine.procedure(r#"[0,[["put",2,101,11]]]"#)?, engine.procedure(r#"[0,[["look",0,2,101,6]]]"#)?), (0, 1));
+    assert_eq!(engine.limits()?, [2, 100, 1]);
     let bank = SharedEngine::take(engine, Configuration::default())?;
+    assert_eq!(bank.limits()?, [2, 100, 1]);
     let mut writer = bank.start(0, &[], None)?.expect("it is started");
     let mut reader = bank.start(1, &[], None)?.expect("it is started");
     assert!(matches!((writer.step()?, reader.step()?), (Reply::Wrote { .. }, Reply::Looked { .. })));

@@ -59,7 +59,7 @@ def explanation(script, replies):
     events = [(line, event) for line, event in lines if not event.startswith('["record",')]
     for (line, event), reply in zip(events, replies.splitlines()):
         if reply.startswith("cut "):
-            part = Part()
+            part = Part(part.is_after_cut or reply != "cut 0")
         elif reply != "still live":
             reported += [f"line {line}: {text}\n" for text in part.take(line, json.loads(event), reply)]
     if live := sorted(part.live):
@@ -115,7 +115,8 @@ def refusal(event, reply):
 class Part:
     """What stands between two cuts."""
 
-    def __init__(self):
+    def __init__(self, is_after_cut=False):
+        self.is_after_cut = is_after_cut  # of at least one event
         self.calls = {}  # of each that was started
         self.live = set()
         self.gone = set()  # those that were aborted or fell
@@ -132,7 +133,7 @@ class Part:
             done = "read" if match[1] == "read" else "wrote"
             self.accesses.append((line, first, done, match[2], match[3], self.source(match[2])))
         elif reply in ("bad args", "no procedure", "spent", "full", "unknown", "not ended"):
-            return [refusal(event, reply)]
+            return [refusal(event, reply) + " since the cut" * (reply == "unknown" and self.is_after_cut)]
         elif reply.startswith("over "):
             return [refusal(event, "over")]
         elif reply.startswith("committed "):

@@ -67,6 +67,28 @@ def is_snapshot_isolated(history):
     return any(snapshot_starts(history, order) is not None for order in commit_orders(history))
 
 
+def keeps(before, order, starts):
+    """Whether each begins after those of the order have committed that come before it, by these pairs."""
+    places = {it: place for place, it in enumerate(order)}
+    return all(places[one] < starts[places[other]] for one, other in before if one in places and other in places)
+
+
+def is_ordered_isolated(history, before):
+    """Whether there is a snapshot run that keeps the pairs. Each start can be chosen by itself, from the last that comes before on."""
+    return any(all(any(is_start(history, order, place, start) for start in range(latest(before, order, place), place + 1))
+                   for place in range(len(order))) for order in commit_orders(history))
+
+
+def latest(before, order, place):
+    """The place after the last of the order that comes before the transaction at the place."""
+    return max((order.index(one) + 1 for one, other in before if other == order[place] and one in order), default=0)
+
+
+def is_start(history, order, place, start):
+    one = order[place]
+    return sees_start(history, order, one, start) and not any(keys_of(history, one) & keys_of(history, other) for other in order[start:place])
+
+
 def is_committed_run(history, order):
     """Whether each read sees what some front of the order has left, without its transaction; after an append of its own to the key, all
     that stand before its transaction."""

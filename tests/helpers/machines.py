@@ -250,9 +250,9 @@ class Postgres:
 
     def __init__(self, folder, *words):
         self.folder, self.bin, self.has_begun = folder / "postgres", os.path.dirname(sorted(glob.glob(INITDB))[-1]), False
-        (port,) = free_ports(1)
-        self.options = f"-p {port} -c unix_socket_directories= -c listen_addresses=127.0.0.1 {' '.join(words)}"
-        self.address, self.python = f"postgresql://postgres@127.0.0.1:{port}/postgres", python_with("psycopg2")
+        (self.port,) = free_ports(1)
+        self.options = f"-p {self.port} -c unix_socket_directories= -c listen_addresses=127.0.0.1 {' '.join(words)}"
+        self.address, self.python = f"postgresql://postgres@127.0.0.1:{self.port}/postgres", python_with("psycopg2")
 
     @staticmethod
     def as_user():
@@ -288,6 +288,11 @@ class Postgres:
         ran = subprocess.run(command, **QUIET, check=False, cwd=self.folder, timeout=2 * SECONDS)
         if ran.returncode:
             raise Differs(f"{program} ends with {ran.returncode}")
+
+    def command(self, text):
+        """Changes its configuration."""
+        for it in (text, "select pg_reload_conf()"):
+            self.run("psql", "-h", "127.0.0.1", "-p", self.port, "-U", "postgres", "-q", "-c", it)
 
     def away(self, seconds):
         """It is killed, and begins anew after so long."""

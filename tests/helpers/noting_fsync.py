@@ -37,6 +37,7 @@ def days_ahead():
 
 os.fsync = noting
 sys.argv = sys.argv[1:]
+os.environ.setdefault("GLIBC_TUNABLES", "")  # else the program would start again, without this one
 sys.path.insert(0, str(pathlib.Path(sys.argv[0]).resolve().parent))
 import server  # noqa: E402
 

@@ -131,6 +131,12 @@ class EngineReads(Uncopied):
         check(HELD.sgt_live_tids(self._engine, tids, count))
         return tids[: count.value]
 
+    def limits(self) -> tuple[int, ...]:
+        """Returns the three limits, as an opening has them: the most live transactions, the most starts, and when codes are reported."""
+        limits = (ctypes.c_uint64 * 3)()
+        check(HELD.sgt_limits(self._engine, limits))
+        return tuple(limits)
+
     def part(self) -> int:
         """How often the history was cut. With this number, the number of a transaction is unique."""
         part = ctypes.c_uint64()

@@ -31,7 +31,7 @@ from ._errors import (
 )
 
 # The version of the headers that this package is for.
-VERSION = "0.3.0"
+VERSION = "0.3.1"
 
 # The least and the greatest value, argument and record number.
 LEAST, MOST = -999_999_999_999_999, 999_999_999_999_999
@@ -218,6 +218,7 @@ _ENGINE_CALLS = {
     "sgt_rows": [_engine, _u64, _i64, _row, _size, _count],
     "sgt_records": [_engine, _count],
     "sgt_live_tids": [_engine, ctypes.POINTER(_u32), _count],
+    "sgt_limits": [_engine, ctypes.POINTER(_u64)],
     "sgt_wrote": [_engine, _u32, ctypes.POINTER(_u32)],
     "sgt_part": [_engine, _count],
     "sgt_entries": [_engine, _count],
@@ -254,6 +255,7 @@ _SHARED_CALLS = {
     "sgt_shared_allow_cut": [_shared],
     "sgt_shared_get": [_shared, _u64, _i64, ctypes.POINTER(_i64)],
     "sgt_shared_rows": [_shared, _u64, _i64, _row, _size, _count],
+    "sgt_shared_limits": [_shared, ctypes.POINTER(_u64)],
     "sgt_shared_entries": [_shared, _count, _count],
     "sgt_shared_drain": [_shared, _i64, ctypes.POINTER(CEnded), _size, _count],
     "sgt_shared_watch": [INTERRUPTED_HOOK, ctypes.c_void_p],

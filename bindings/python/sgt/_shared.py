@@ -316,6 +316,12 @@ class SharedEngine(Uncopied):
         table, number = whole(table, 0, 7), whole(number, LEAST, MOST)
         return rows_of(*all_rows(lambda reported, space, count: self._ask(FREE.sgt_shared_rows, table, number, reported, space, count)))
 
+    def limits(self) -> tuple[int, ...]:
+        """Returns the three limits, as `Engine.limits` does."""
+        limits = (ctypes.c_uint64 * 3)()
+        check(self._ask(FREE.sgt_shared_limits, limits))
+        return tuple(limits)
+
     def entries(self) -> int:
         """The number of entries of the history since the last cut."""
         count = ctypes.c_uint64()

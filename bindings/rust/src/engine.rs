@@ -219,6 +219,12 @@ impl Engine {
         Ok(tids[..count as usize].to_vec())
     }
 
+    /// Returns the three limits, as an opening has them: the most live transactions, the most starts, and when codes are reported.
+    pub fn limits(&self) -> Result<[u64; 3], Error> {
+        let mut limits = [0; 3];
+        done(unsafe { c::sgt_limits(self.inner.get(), limits.as_mut_ptr()) }).map(|()| limits)
+    }
+
     /// Returns how often the history was cut. With this number, the number of a transaction is unique.
     pub fn part(&self) -> u64 {
         let mut part = 0;

@@ -233,6 +233,12 @@ impl SharedEngine {
         }
     }
 
+    /// Returns the three limits, as `Engine::limits` does.
+    pub fn limits(&self) -> Result<[u64; 3], Error> {
+        let mut limits = [0; 3];
+        done(unsafe { c::sgt_shared_limits(self.at(), limits.as_mut_ptr()) }).map(|()| limits)
+    }
+
     /// Returns the number of entries of the history since the last cut.
     pub fn entries(&self) -> Result<u64, Error> {
         let mut count = 0;

@@ -5,9 +5,9 @@ use crate::ended_error::late_operation;
 use crate::input::is_folder;
 use crate::operation_error::{WordError, index_of, word_at, word_error};
 use sgt_check::CheckFault;
-use sgt_clients::{ClientsFault, Hint};
+use sgt_clients::{ClientsFault, Flaw, Hint};
 use sgt_input::{Fault, MOST_BYTES, Source};
-use sgt_line_errors::{Command, Remembering, explain};
+use sgt_line_errors::{Command, Remembering, diagnose};
 use sgt_notation::{NotationFault, Shown};
 use std::alloc::Global;
 use std::fmt::{self, Display, Formatter};
@@ -103,13 +103,13 @@ fn digit(code: u32, unit: u32) -> &'static str {
     DIGITS.get(place as usize).copied().unwrap_or("0")
 }
 
-/// The failure of a script or a bank that read at most so many bytes from this source: from a file, or from standard
-/// input.
-pub(crate) fn failure_of<R: Files, S: Source>(
+/// The failure of a script or a bank that read at most so many bytes: from a file, or from standard input. Its fault is
+/// about this line, if it is about one.
+pub(crate) fn failure_of<R: Files>(
     rt: &R,
     alloc: Global,
     command: Command,
-    source: &Remembering<S>,
+    line: Option<&[u8]>,
     file: Option<&str>,
     most: usize,
     fault: Fault,
@@ -117,12 +117,25 @@ pub(crate) fn failure_of<R: Files, S: Source>(
     let detail = match fault {
         Fault::Reading => unread_detail(rt, file),
         Fault::TooLong => Detail::TooLong(most),
-        _ => match explain(alloc, &fault, command, source) {
+        _ => match explained(alloc, command, line, &fault) {
             Some(text) => Detail::Text(text),
             None => words_or_nothing(advise(&fault)),
         },
     };
     Failure::Fault(fault, detail)
+}
+
+/// What is wrong with the line that a fault is about. None if the fault's own line says all, or if memory ran out.
+fn explained(
+    alloc: Global,
+    command: Command,
+    line: Option<&[u8]>,
+    fault: &Fault,
+) -> Option<String> {
+    match diagnose(alloc, fault, command, line?) {
+        Ok(text) => text,
+        Err(_) => None,
+    }
 }
 
 /// The failure of a check that read from this source: from a file, or from standard input.
@@ -145,9 +158,10 @@ pub(crate) fn check_failure<R: Files, S: Source>(
     Failure::Fault(fault, detail)
 }
 
-/// The failure of a check of what clients saw: from a file, or from standard input.
-pub(crate) fn clients_failure<R: Files>(
+/// The failure of a check of what clients saw, which read from this source: from a file, or from standard input.
+pub(crate) fn clients_failure<R: Files, S: Source>(
     rt: &R,
+    source: &Remembering<S>,
     file: Option<&str>,
     fault: ClientsFault,
 ) -> Failure<ClientsFault> {
@@ -156,13 +170,91 @@ pub(crate) fn clients_failure<R: Files>(
             ClientsFault::Entry(line, entry, flaw),
             Detail::Entry(hint),
         ),
-        ClientsFault::Check(CheckFault::Reading) => Failure::Fault(fault, unread_detail(rt, file)),
-        ClientsFault::Check(CheckFault::TooLong) => Failure::Fault(
-            fault,
-            Detail::Words("a history has at most 268435456 bytes"),
-        ),
-        _ => Failure::Fault(fault, Detail::Nothing),
+        other => unhinted_failure(rt, source, file, other),
     }
+}
+
+/// The same of an error that has no hint.
+fn unhinted_failure<R: Files, S: Source>(
+    rt: &R,
+    source: &Remembering<S>,
+    file: Option<&str>,
+    fault: ClientsFault,
+) -> Failure<ClientsFault> {
+    let detail = match &fault {
+        ClientsFault::Check(CheckFault::Reading) => unread_detail(rt, file),
+        ClientsFault::Entry(line, _, Flaw::NotJson(column)) => {
+            let words = match source.line(*line) {
+                Some(line) => json_hint(line, *column),
+                None => None,
+            };
+            words_or_nothing(words)
+        }
+        other => words_or_nothing(words_about(other)),
+    };
+    Failure::Fault(fault, detail)
+}
+
+/// What is said about an error of what clients saw, whatever its input is.
+fn words_about(fault: &ClientsFault) -> Option<&'static str> {
+    match fault {
+        ClientsFault::Check(CheckFault::TooLong) => Some("a history has at most 268435456 bytes"),
+        ClientsFault::OnlySkipped(_) => Some(
+            "an entry of a transaction has \"f\":\"txn\", or no f",
+        ),
+        ClientsFault::Twice(..) => Some(APPENDED_ONCE),
+        ClientsFault::Entry(_, _, Flaw::OtherOperations(..)) => Some(SAME_OPERATIONS),
+        ClientsFault::NoOperations
+        | ClientsFault::Entry(_, _, Flaw::NoObject | Flaw::Value | Flaw::Operation(_)) => Some(
+            AN_ENTRY,
+        ),
+        _ => None,
+    }
+}
+
+/// What holds of the values that clients append.
+const APPENDED_ONCE: &str =
+    "each append to a key has a value of its own, as from a counter: else a read does not say which one it saw";
+
+/// What holds of the end of a transaction of a client.
+const SAME_OPERATIONS: &str =
+    "an end has the operations of its invoke, in their order, and in place of null what the reads saw";
+
+/// How an entry of what clients saw is written.
+const AN_ENTRY: &str =
+    "an entry is an object, and its value a list of operations, as {\"type\":\"ok\",\"process\":0,\"value\":[[\"append\",1,2],[\"r\",1,[2]]]}";
+
+/// What is said about the byte at this column, from which on a line is not JSON, if it is plain what was meant.
+fn json_hint(line: &[u8], column: usize) -> Option<&'static str> {
+    let index = column.saturating_sub(1);
+    let before = line.get(..index)?.trim_ascii_end();
+    match line.get(index)? {
+        b'\'' => Some("a text stands in double quotes in JSON"),
+        b'N' | b'T' | b'F' => Some("JSON has null, true and false, in small letters"),
+        b'a'..=b'z' if !is_torn(line.get(index..)?) => Some(
+            "a word stands in double quotes in JSON, but for null, true and false",
+        ),
+        b'(' => Some("a list stands in square brackets in JSON"),
+        b'/' | b'#' => Some("JSON has no comments"),
+        b']' | b'}' if before.ends_with(b",") => Some("nothing stands after the comma in JSON"),
+        _ => None,
+    }
+}
+
+/// Whether these bytes start with a part of a word of JSON.
+fn is_torn(bytes: &[u8]) -> bool {
+    let word = letters_of(bytes);
+    b"null".starts_with(word) || b"true".starts_with(word) || b"false".starts_with(word)
+}
+
+/// The small letters with which these bytes start.
+fn letters_of(bytes: &[u8]) -> &[u8] {
+    for at in 0..bytes.len() {
+        if !bytes[at].is_ascii_lowercase() {
+            return &bytes[..at];
+        }
+    }
+    bytes
 }
 
 /// What is said about an error of a history.

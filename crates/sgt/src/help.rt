@@ -2,7 +2,8 @@
 
 /// What `sgt --help` prints after the options.
 pub(crate) const HELP: &str =
-    r#"Each command reads standard input, or the file that an argument names, and writes standard output:
+    r#"Each command reads standard input (also as -), or the file that an argument names, and writes
+standard output:
 
   sgt script < examples/write_skew.jsonl
   sgt bank --workers 4 < examples/bank/four_deposits.jsonl
@@ -55,12 +56,14 @@ them is an event and gets one line of reply. The committed database comes last.
   procedures  your own, numbered from 5. [1,[["look",0,3,["arg",0],44],["answer",["reg",0]]]] takes
               1 argument, reads this record of table 3 into register 0, or aborts with code 44 if
               there is none, and answers it
-  record      a table from 0 to 7, a number in it and a value; --records writes such lines
+  record      directly after line 1: a table from 0 to 7, a number in it and a value. Accounts are
+              in tables 0, 1 and 2. --records writes such lines
   start       a procedure's number and its arguments: 0 Balance (name),
               1 DepositChecking (name, amount), 2 TransactSaving (name, amount),
               3 Amalgamate (name, name), 4 WriteCheck (name, amount)
   step        makes the transaction's next access; without one, it ends, or aborts with its code
-  commit      commits it, if its procedure has ended
+  commit      commits it, if its procedure has ended. After the reply 'waits 1', commit again when 1
+              has ended: an access of 1 conflicts with a later one of this transaction
   quit        aborts it
   begin       starts the empty procedure, 65535: the caller decides each access
   read        a read on which the caller decides, once the procedure has ended: the transaction, a
@@ -104,8 +107,8 @@ the words, as [5,44,"no such account"]
 With --json each reply is an object of JSON, and the records at the end are lines as --records
 writes them:
 
-  {"reply":"read","table":0,"number":1,"value":101}
-  {"reply":"aborted","cause":"cycle","cycle":[1,0],"cascade":[]}
+  {"transaction":0,"reply":"read","table":0,"number":1,"value":101}
+  {"transaction":1,"reply":"aborted","cause":"cycle","cycle":[1,0],"cascade":[]}
   ["record",0,1,101]
 
 The first bad line ends the script. The replies to the lines before it are written, and the error is
@@ -121,10 +124,11 @@ examples/ has scripts."#;
 
 /// What `sgt bank --help` prints after the options.
 pub(crate) const BANK_HELP: &str =
-    r#"Line 1 and the record lines after it are as in a script. Each later line is a job: one call of a
-procedure. The workers take the jobs in turn and run them at the same time, each as a transaction of
-its own. A job that a conflict aborts is tried again. The output has a line for each job, numbered
-from 0, and then the committed database:
+    r#"Line 1 and the record lines after it are as in a script. If line 1 is too short for the accounts,
+write them as record lines of tables 0, 1 and 2, as --json ends with. Each later line is a job: one
+call of a procedure. The workers take the jobs in turn and run them at the same time, each as a
+transaction of its own. A job that a conflict aborts is tried again. The output has a line for each
+job, numbered from 0, and then the committed database:
 
   {"limits":[32,1000],"accounts":[[1,101,500,1000]],"procedures":[]}
   ["job",1,[1,50]]
@@ -141,7 +145,8 @@ gives
   2/101 1050
 
   job         a procedure's number and its arguments, as at a start in a script: 0 is Balance
-              (name), 1 DepositChecking (name, amount), and line 1 has your own from 5 on
+              (name), 1 DepositChecking (name, amount), and line 1 has your own from 5 on. 65535
+              does nothing and commits
   committed   the answers of its procedure, or none
   asked       its procedure aborted with this code; it changed nothing
   gave        all its tries were aborted; the number of tries
@@ -149,9 +154,10 @@ gives
               each try is one, 4 too many are live. (In a script it has the code of a procedure.)
   no memory   an allocation failed; it changed nothing
 
-With a third limit of 1, as in [32,1000,1], each code is the code of the serial run, as answers are.
-If you act on codes, set the third limit to 1. Otherwise a code may rest on a value that another job
-wrote and that was undone later.
+With a third limit of 1, as in [32,1000,1], each code is the code of the serial run, as answers are:
+run one after another in the order of 'event' (--json), the committed and the asked jobs give the
+same answers and codes. If you act on codes, set the third limit to 1. Otherwise a code may rest on
+a value that another job wrote and that was undone later.
 
 All jobs are read before the first one runs, at most 1000000. If a line is bad, it is reported with
 what was expected, and no job runs. A line has at most 65536 bytes, the input 16777216, or what
@@ -173,11 +179,12 @@ Standard output and the status are as without --explain. It excludes --history a
 --words names a file that says what codes mean. It has a line for each: a procedure, its code, and
 the words, as [5,44,"no such account"]
 
-With --json each outcome is an object of JSON, with the number of tries, and the records at the end
-are lines as --records writes them:
+With --json each outcome is an object of JSON, and the records at the end are lines as --records
+writes them. 'tries' counts the tries; 'event' numbers the event of the run that ended the job, from
+0: sorted by it, the committed jobs are in commit order:
 
-  {"job":0,"outcome":"committed","answers":[1050],"tries":1}
-  {"job":1,"outcome":"asked","code":1,"tries":1}
+  {"job":0,"outcome":"committed","answers":[1050],"event":5,"tries":1}
+  {"job":1,"outcome":"asked","code":1,"event":8,"tries":1}
   {"job":2,"outcome":"refused","reason":"no procedure","tries":0}
   ["record",0,1,101]
 
@@ -243,14 +250,15 @@ one after another, or in one array, or maps of EDN, as Jepsen stores them in his
   {"type":"invoke","process":1,"f":"txn","value":[["r",9,null],["append",8,2]]}
   {"type":"ok","process":0,"f":"txn","value":[["r",8,[]],["append",9,1]]}
   {"type":"ok","process":1,"f":"txn","value":[["r",9,[]],["append",8,2]]}
-  {:type :ok, :process 1, :f :txn, :value [[:r 9 []] [:append 8 2]]}   ; the last one in EDN
+
+Such an entry in EDN, if all are: {:type :ok, :process 1, :f :txn, :value [[:r 9 []] [:append 8 2]]}
 
   type        invoke: a transaction begins. ok: it committed, and its reads saw these lists.
               fail: it aborted. info, or no end: unknown
   process     a whole number or a text; each process runs one transaction at a time
   f           txn. Objects with another f are of no transaction: they are skipped, and counted
   value       append key value, read (r) key list. A key is a whole number, or a text like an item.
-              A value is a whole number up to 4294967295, and appended once to its key
+              A value is a whole number of at most 15 digits, and appended once to its key
 
 Transactions are t1, t2, .. in the order in which they begin. After a transaction, the report names
 the line of its end, or of its beginning if its end is unknown:
@@ -271,7 +279,8 @@ With --strict the order also keeps real time: if one transaction ended before an
 comes first. Time is the order of the objects. With --json the report is one object of JSON. --graph
 and --timeline show the cycle. If the objects are not one a line, 'entry 3' in place of 'line 3'
 names the third object. After the strongest level comes what breaks the next one, unless the lines
-before say it.
+before say it; with --strict, whether strong and session snapshot isolation hold; and how often each
+anomaly was seen, with its first example.
 
 The status is 0 if the history is serializable and recoverable (list-append: serializable, or of the
 level that --level names), 1 if not, 2 after an error, and 3 if --level's answer is undecided. The

@@ -1,5 +1,6 @@
 //! The input of a run: standard input, or a file that an argument names.
 
+use clap::ArgMatches;
 use std::fmt::{self, Display, Formatter};
 use std::fs::{File, OpenFile};
 use std::io::{self, ErrorKind, Input, Read};
@@ -7,6 +8,17 @@ use std::rt::Files;
 
 /// The name of the argument that names a file.
 pub(crate) const FILE: &str = "file";
+
+/// The name that stands for standard input.
+const STANDARD_INPUT: &str = "-";
+
+/// The file that the options name. None is standard input.
+pub(crate) fn named_file<'a>(options: &'a ArgMatches<'_>) -> Option<&'a str> {
+    match options.get_str(FILE) {
+        Some(name) if name == STANDARD_INPUT => None,
+        name => name,
+    }
+}
 
 /// The bytes of standard input, or of a file.
 #[derive(Drop)]

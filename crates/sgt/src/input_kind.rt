@@ -10,25 +10,24 @@ const IS_JSON: &str = "; JSON and EDN are read with --model list-append";
 const IS_SCRIPT: &str =
     "; sgt script --history or sgt bank --history writes the history of such an input";
 
-/// The most lines of an input that are looked at.
-const MOST_LINES: u64 = 50;
+/// The hint for what is no JSON and starts with a comment.
+const IS_COMMENTED: &str =
+    "; JSON has no comments, and text like r1[x] is read without --model list-append";
 
-/// The names of members that the entry of a client has, in JSON and in EDN.
-const MEMBERS: [&[u8]; 4] = [b"\"type\"", b"\"process\"", b":type", b":process"];
+/// The hint at how an input is read that is no history in the textbook's notation, but starts like JSON or EDN.
+pub(crate) fn kind_of<S: Source>(source: &Remembering<S>) -> &'static str {
+    match source.line(1) {
+        Some(line) if has(line, b"\"limits\"") => IS_SCRIPT,
+        _ => IS_JSON,
+    }
+}
 
-/// The hint at how an input is read that is no history in the textbook's notation, if it looks like something else.
-pub(crate) fn kind_of<S: Source>(source: &Remembering<S>) -> Option<&'static str> {
-    if has(source.line(1)?, b"\"limits\"") {
-        return Some(IS_SCRIPT);
+/// The hint at how an input is read whose first entry is no object, if it starts with a comment.
+pub(crate) fn comment_of<S: Source>(source: &Remembering<S>) -> Option<&'static str> {
+    match source.line(1) {
+        Some(line) if line.starts_with(b"#") => Some(IS_COMMENTED),
+        _ => None,
     }
-    for number in 1..MOST_LINES {
-        for name in MEMBERS {
-            if has(source.line(number)?, name) {
-                return Some(IS_JSON);
-            }
-        }
-    }
-    None
 }
 
 /// Whether the line has these bytes.

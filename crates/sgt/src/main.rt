@@ -21,6 +21,7 @@ mod failure;
 mod help;
 mod input;
 mod input_kind;
+mod number_error;
 mod operation_error;
 mod output;
 mod unjudged;
@@ -33,13 +34,15 @@ use clap::error::ErrorKind;
 use clap::{Arg, ArgAction, ArgMatches, Command};
 use failure::{Detail, Failure, check_failure, clients_failure, failure_of};
 use help::{BANK_HELP, CHECK_HELP, HELP, SCRIPT_HELP};
-use input::{FILE, open_input};
-use input_kind::kind_of;
+use input::{FILE, named_file, open_input};
+use input_kind::{comment_of, kind_of};
+use number_error::number_error;
 use output::OutputBytes;
 use sgt_bank::{Explanations, MOST_TRIES, MOST_WORKERS, run_bank};
 use sgt_check::{CheckFault, Verdict, run_check};
-use sgt_clients::{Answer, ClientsFault, ClientsOutput, Hint, Level, Question, run_clients};
-use sgt_explain::Words;
+use sgt_clients::{
+    Answer, ClientsFault, ClientsOutput, Flaw as EntryFlaw, Hint, Level, Question, run_clients,
+};
 use sgt_input::{DEFAULT_BYTES, Fault, MOST_BYTES, Reader, Sink, Source, Writer};
 use sgt_line_errors::Remembering;
 use sgt_notation::NotationFault;
@@ -54,7 +57,7 @@ use std::sync::Wait;
 use std::thread::Threads;
 use std::time::Clock;
 use unjudged::active_ones;
-use words::{WORDS, read_words};
+use words::{GivenWords, NoProcedure, WORDS, read_words};
 
 const VERSION: &str = "0.1.0";
 
@@ -83,6 +86,15 @@ For more information, try '--help'.";
 const NEEDS_TIMELINE: &str = "error: the option '--all' needs '--timeline'
 
 Usage: sgt check [OPTIONS] [FILE]
+
+For more information, try '--help'.";
+
+/// The message for the name that workers often have, as `clap` would write it.
+const NO_THREADS: &str = "error: unexpected argument '--threads' found
+
+  tip: a similar argument exists: '--workers'
+
+Usage: sgt bank --workers <workers> [FILE]
 
 For more information, try '--help'.";
 
@@ -311,9 +323,9 @@ fn check_options<'a>(alloc: Global) -> Result<Vec<Arg<'a>>, AllocError> {
 
 /// The argument that names a file to read in place of standard input.
 fn file_argument<'a>(alloc: Global) -> Arg<'a> {
-    Arg::new(alloc, FILE)
-        .value_name("FILE")
-        .help("The file to read, in place of standard input")
+    Arg::new(alloc, FILE).value_name("FILE").help(
+        "The file to read, in place of standard input; - is standard input",
+    )
 }
 
 /// A subcommand of `sgt`, with its options. Each may name the file that it reads.
@@ -418,7 +430,7 @@ fn script<R: Print + Eprint + Files + Clock, I: Read + Drop>(
     alloc: Global,
     streams: Streams,
     options: &ArgMatches<'_>,
-    words: &Words,
+    given: &GivenWords<'_>,
     input: I,
     size: Option<u64>,
 ) -> Result<(), Failure<Fault>> {
@@ -429,9 +441,10 @@ fn script<R: Print + Eprint + Files + Clock, I: Read + Drop>(
         shows_progress,
         size,
     };
-    let mut source = Remembering::new(alloc, Reader::new(input));
+    let mut source = Reader::new(input);
     let mut writer = Writer::new(OutputBytes::new(io::writer(rt)));
     let mut errors = Writer::new(streams.stderr);
+    let mut line = Some(Vec::new(alloc));
     let explanations = if options.get_flag("explain") {
         Some(&mut errors)
     } else {
@@ -444,17 +457,21 @@ fn script<R: Print + Eprint + Files + Clock, I: Read + Drop>(
         &mut writer,
         chosen,
         explanations,
-        words,
+        &given.words,
+        &mut line,
     ) {
-        Ok(()) => Ok(()),
+        Ok(()) => {
+            warn_of_words(rt, given.missing(alloc, bytes_of(&line)));
+            Ok(())
+        }
         Err(Fault::Writing) => Err(writer.inner.failure(Fault::Writing)),
         Err(fault) => {
-            let file = options.get_str(FILE);
+            let file = named_file(options);
             Err(failure_of(
                 rt,
                 alloc,
                 sgt_line_errors::Command::Script,
-                &source,
+                bytes_of(&line),
                 file,
                 chosen.most,
                 fault,
@@ -463,10 +480,25 @@ fn script<R: Print + Eprint + Files + Clock, I: Read + Drop>(
     }
 }
 
+/// The bytes of a line, if memory did not run out for it.
+fn bytes_of(line: &Option<Vec<u8>>) -> Option<&[u8]> {
+    match line {
+        Some(line) => Some(line.as_slice()),
+        None => None,
+    }
+}
+
+/// Says on standard error that words were given to a procedure that is not there.
+fn warn_of_words<R: Eprint>(rt: &R, missing: Option<NoProcedure<'_>>) {
+    if let Some(missing) = missing {
+        report(rt, missing);
+    }
+}
+
 /// Whether a run says how far it is: if that is asked for, or else if standard error is a terminal and nobody types the
 /// input.
 fn shows_progress(streams: &Streams, options: &ArgMatches<'_>) -> bool {
-    let is_typed = streams.is_typed && options.get_str(FILE).is_none();
+    let is_typed = streams.is_typed && named_file(options).is_none();
     let is_watched = streams.stderr.is_terminal() && !is_typed;
     options.get_flag("progress") || is_watched && !options.get_flag("no-progress")
 }
@@ -520,13 +552,14 @@ fn bank<R: Print + Eprint + Files + Clock + Threads + Wait + Sync, I: Read + Dro
     alloc: Global,
     streams: Streams,
     options: &ArgMatches<'_>,
-    words: &Words,
+    given: &GivenWords<'_>,
     input: I,
 ) -> Result<(), Failure<Fault>> {
     let chosen = read_bank_options(options, shows_progress(&streams, options));
-    let mut source = Remembering::new(alloc, Reader::new(input));
+    let mut source = Reader::new(input);
     let mut writer = Writer::new(OutputBytes::new(io::writer(rt)));
     let mut errors = Writer::new(streams.stderr);
+    let mut line = Some(Vec::new(alloc));
     match run_bank(
         rt,
         alloc,
@@ -534,16 +567,28 @@ fn bank<R: Print + Eprint + Files + Clock + Threads + Wait + Sync, I: Read + Dro
         &mut writer,
         &mut errors,
         chosen,
-        words,
+        &given.words,
+        &mut line,
     ) {
-        Ok(()) => Ok(()),
+        Ok(()) => {
+            warn_of_words(rt, given.missing(alloc, bytes_of(&line)));
+            Ok(())
+        }
         Err(Fault::Writing) => Err(writer.inner.failure(Fault::Writing)),
         Err(fault) => {
             let command = sgt_line_errors::Command::Bank {
                 workers: chosen.workers,
             };
-            let file = options.get_str(FILE);
-            Err(failure_of(rt, alloc, command, &source, file, chosen.most, fault))
+            let file = named_file(options);
+            Err(failure_of(
+                rt,
+                alloc,
+                command,
+                bytes_of(&line),
+                file,
+                chosen.most,
+                fault,
+            ))
         }
     }
 }
@@ -571,7 +616,7 @@ fn check<R: Print + Eprint + Files, I: Read + Drop>(
     match run_check(alloc, &mut source, &mut writer, check_output(options)) {
         Ok(verdict) => judged(rt, options, verdict),
         Err(CheckFault::Writing) => failed(rt, writer.inner.failure(CheckFault::Writing)),
-        Err(fault) => check_failed(rt, alloc, &source, options.get_str(FILE), fault),
+        Err(fault) => check_failed(rt, alloc, &source, named_file(options), fault),
     }
 }
 
@@ -583,10 +628,10 @@ fn check_failed<R: Eprint + Files, S: Source>(
     file: Option<&str>,
     fault: CheckFault,
 ) -> ExitCode {
-    match kind_of(source) {
-        Some(kind) if is_brace(&fault) => report_hint(rt, fault, kind),
-        _ => failed(rt, check_failure(rt, alloc, source, file, fault)),
+    if is_brace(&fault) {
+        return report_hint(rt, fault, kind_of(source));
     }
+    failed(rt, check_failure(rt, alloc, source, file, fault))
 }
 
 /// Checks what clients saw, from the input to standard output, and returns the exit status.
@@ -597,25 +642,35 @@ fn check_clients<R: Print + Eprint + Files, I: Read + Drop>(
     question: Question,
     input: I,
 ) -> ExitCode {
-    let mut reader = Reader::new(input);
+    let mut source = Remembering::new(alloc, Reader::new(input));
     let mut writer = Writer::new(OutputBytes::new(io::writer(rt)));
     let output = clients_output(options);
-    match run_clients(alloc, &mut reader, &mut writer, output, question) {
+    match run_clients(alloc, &mut source, &mut writer, output, question) {
         Ok(answer) => answered(answer),
         Err(ClientsFault::Check(CheckFault::Writing)) => failed(
             rt,
             writer.inner.failure(CheckFault::Writing),
         ),
-        Err(fault) => clients_failed(rt, options.get_str(FILE), fault),
+        Err(fault) => clients_failed(rt, &source, named_file(options), fault),
     }
 }
 
 /// Reports why what clients saw could not be checked, and returns the exit status.
-fn clients_failed<R: Eprint + Files>(rt: &R, file: Option<&str>, fault: ClientsFault) -> ExitCode {
+fn clients_failed<R: Eprint + Files, S: Source>(
+    rt: &R,
+    source: &Remembering<S>,
+    file: Option<&str>,
+    fault: ClientsFault,
+) -> ExitCode {
     if matches!(fault, ClientsFault::Hinted(_, _, _, Hint::History)) {
         return report_hint(rt, fault, IS_TEXT);
     }
-    failed(rt, clients_failure(rt, file, fault))
+    if matches!(fault, ClientsFault::Entry(_, 1, EntryFlaw::NoObject)) {
+        if let Some(hint) = comment_of(source) {
+            return report_hint(rt, fault, hint);
+        }
+    }
+    failed(rt, clients_failure(rt, source, file, fault))
 }
 
 /// What the options ask of what clients saw: by default whether it is serializable, or strictly so.
@@ -680,7 +735,7 @@ fn run<R: Print + Eprint + Input + Files + Clock + Threads + Wait + Sync>(
     if name == "version" {
         return print_version(rt);
     }
-    let file = options.get_str(FILE);
+    let file = named_file(options);
     if file.is_none() && streams.is_typed {
         report(rt, TYPED);
     }
@@ -784,14 +839,28 @@ fn report_hint<R: Eprint>(rt: &R, fault: impl Display + Drop, hint: &str) -> Exi
 }
 
 /// Writes what `clap` reports in place of a run: help and version to standard output, all else to standard error.
-fn refuse<R: Print + Eprint>(rt: &R, error: &clap::Error) -> ExitCode {
+fn refuse<R: Print + Eprint>(rt: &R, alloc: Global, error: &clap::Error) -> ExitCode {
     if error.kind() == ErrorKind::OutOfMemory {
         return report(rt, Fault::NoMemory);
+    }
+    if let Some(text) = number_error(alloc, error) {
+        return report(rt, text.as_str().trim_end());
     }
     if error.print(rt).is_err() {
         return report(rt, Fault::Writing);
     }
     ExitCode::from(error.exit_code() as u8)
+}
+
+/// Whether these arguments of a bank name threads.
+fn names_threads(words: &[String]) -> bool {
+    let is_bank = words.iter().any(|word| word.as_str() == "bank");
+    is_bank && words.iter().any(|word| is_threads(word.as_str()))
+}
+
+/// Whether an argument is that option, with a value or without one.
+fn is_threads(word: &str) -> bool {
+    word == "--threads" || word.as_bytes().starts_with(b"--threads=")
 }
 
 /// Runs these arguments, and returns the exit status.
@@ -801,12 +870,15 @@ fn run_words<R: Print + Eprint + Input + Files + Clock + Threads + Wait + Sync>(
     streams: Streams,
     words: &[String],
 ) -> ExitCode {
+    if names_threads(words) {
+        return report(rt, NO_THREADS);
+    }
     let Ok(command) = command(alloc) else {
         return report(rt, Fault::NoMemory);
     };
     match command.try_get_matches_from(words) {
         Ok(matches) => run(rt, alloc, streams, &matches),
-        Err(error) => refuse(rt, &error),
+        Err(error) => refuse(rt, alloc, &error),
     }
 }
 

@@ -20,6 +20,8 @@ const NO_COMMAS: &str = "operations are separated by spaces or newlines, without
 
 const ITEM: &str = "an item is 1 to 64 letters, digits and _ . / : -";
 
+const NO_VALUE: &str = "a history has no values: an item is 1 to 64 letters, digits and _ . / : -";
+
 /// What is wrong with a word.
 #[derive(Clone, Copy, Debug, PartialEq, Eq)]
 pub(crate) enum WordError {
@@ -45,6 +47,10 @@ pub(crate) fn word_error(word: &[u8]) -> WordError {
     match word.first() {
         Some(b'r' | b'w') => access_error(word),
         Some(b'c' | b'a') => end_error(word),
+        _ if word.starts_with(b"//") || word.starts_with(b"--") => WordError::Words(
+            0,
+            "a comment starts with #",
+        ),
         Some(b'R' | b'W' | b'C' | b'A') => WordError::Words(
             0,
             "an operation starts with a small letter: r1[x], w1[x], c1 or a1",
@@ -83,7 +89,7 @@ fn access_error(word: &[u8]) -> WordError {
         ),
         _ if !word.contains(&b'[') => WordError::Words(
             0,
-            "a read and a write name an item in square brackets, as in r1[x]",
+            "a read and a write name an item in square brackets, without a space, as in r1[x]",
         ),
         _ => WordError::Words(0, FORM),
     }
@@ -137,6 +143,9 @@ fn item_error(word: &[u8], start: usize) -> WordError {
                 return WordError::Words(start, ITEM);
             }
             return rest_error(word, at.saturating_add(1));
+        }
+        if matches!(word[at], b'=' | b',') {
+            return WordError::Words(at, NO_VALUE);
         }
         if !is_item_byte(word[at]) {
             return WordError::Words(at, ITEM);

@@ -13,7 +13,7 @@ use std::collections::BTreeMap;
 /// For each key and value: the transaction that appends it, and the position of the append in that transaction.
 #[derive(Drop)]
 pub struct AppendIndex {
-    positions: BTreeMap<(u32, u32), (usize, usize)>,
+    positions: BTreeMap<(u32, u64), (usize, usize)>,
 }
 
 impl AppendIndex {
@@ -74,7 +74,7 @@ impl AppendIndex {
     fn put(
         &mut self,
         key: u32,
-        value: u32,
+        value: u64,
         transaction: usize,
         position: usize,
     ) -> Result<bool, NoMemory>
@@ -90,7 +90,7 @@ impl AppendIndex {
     }
 
     /// The transaction that appends the value to the key, and the position of the append in it.
-    pub fn find(&self, key: u32, value: u32) -> Option<(usize, usize)>
+    pub fn find(&self, key: u32, value: u64) -> Option<(usize, usize)>
         ensures { result ≡ position_of self.now key value }
     {
         self.positions.get(&(key, value)).copied()

@@ -14,7 +14,7 @@ use std::collections::BTreeMap;
 /// The current list of each key.
 #[derive(Drop)]
 pub struct Contents {
-    lists: BTreeMap<u32, Vec<u32>>,
+    lists: BTreeMap<u32, Vec<u64>>,
 }
 
 impl Contents {
@@ -28,7 +28,7 @@ impl Contents {
     }
 
     /// Appends the value to the key's list.
-    fn append(&mut self, alloc: Global, key: u32, value: u32) -> Result<(), NoMemory>
+    fn append(&mut self, alloc: Global, key: u32, value: u64) -> Result<(), NoMemory>
         ensures { OnOk result ((k : ℕ) → stands self.new k ≡ (if k == key then stands self.old k ++ value ∷ [] else stands self.old k)) }
     {
         let mut list = match self.lists.remove(&key) {
@@ -41,7 +41,7 @@ impl Contents {
     }
 
     /// Whether the key has exactly these values.
-    fn shows(&self, key: u32, values: &[u32]) -> bool
+    fn shows(&self, key: u32, values: &[u64]) -> bool
         ensures { IsTrue result → values.now ≡ stands self.now key }
     {
         match self.lists.get(&key) {
@@ -98,7 +98,7 @@ impl Contents {
     }
 
     /// Whether the values end with the key's list.
-    pub(crate) fn is_end_of(&self, key: u32, values: &[u32]) -> bool
+    pub(crate) fn is_end_of(&self, key: u32, values: &[u64]) -> bool
         ensures { IsTrue result ↔ ((front : List ℕ) × (values.now ≡ front ++ stands self.now key)) }
     {
         match self.lists.get(&key) {
@@ -118,7 +118,7 @@ impl Contents {
     }
 
     /// The values of the key's list, without as many as the other's list has.
-    pub(crate) fn beyond(&self, other: &Contents, key: u32) -> &[u32]
+    pub(crate) fn beyond(&self, other: &Contents, key: u32) -> &[u64]
         ensures { result.now ≡ drop (length (stands other.now key)) (stands self.now key) }
     {
         match self.lists.get(&key) {
@@ -129,7 +129,7 @@ impl Contents {
 }
 
 /// The values from the position on.
-fn values_from(values: &[u32], at: usize) -> &[u32]
+fn values_from(values: &[u64], at: usize) -> &[u64]
     ensures { result.now ≡ drop at values.now }
 {
     if values.len() <= at {

@@ -6,14 +6,14 @@ ghost use Rattle.sgt_appends.specs.Lists.{IsPrefix};
 #[derive(Clone, Copy, Debug, PartialEq, Eq)]
 pub enum Fault {
     /// It saw a value that no transaction appends.
-    Unwritten(u32),
+    Unwritten(u64),
     /// It saw a value that only this transaction appends, which aborted.
     Aborted {
         by: usize,
         append: usize,
     },
     /// It saw a value twice.
-    Twice(u32),
+    Twice(u64),
     /// It saw two values of one transaction in the opposite order.
     Swapped {
         by: usize,
@@ -34,14 +34,14 @@ pub enum Fault {
 }
 
 /// Whether the list ends with the other.
-pub fn ends_with(values: &[u32], end: &[u32]) -> bool
+pub fn ends_with(values: &[u64], end: &[u64]) -> bool
     ensures { IsTrue result ↔ ((front : List ℕ) × (values.now ≡ front ++ end.now)) }
 {
     end.len() <= values.len() && &values[values.len() - end.len()..] == end
 }
 
 /// Whether the other is a prefix of the list.
-pub fn starts_with(values: &[u32], start: &[u32]) -> bool
+pub fn starts_with(values: &[u64], start: &[u64]) -> bool
     ensures { IsTrue result ↔ IsPrefix start.now values.now }
 {
     start.len() <= values.len() && &values[..start.len()] == start

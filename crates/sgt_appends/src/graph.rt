@@ -67,7 +67,7 @@ fn add_transaction(
     history: &[Transaction],
     appends: &AppendIndex,
     lines: &Lines,
-    values: &BTreeSet<(u32, u32)>,
+    values: &BTreeSet<(u32, u64)>,
     number: usize,
 ) -> Result<(), NoMemory>
     requires index { IsIndex history.now (position_of appends.now) }
@@ -100,7 +100,7 @@ fn add_position(
     history: &[Transaction],
     appends: &AppendIndex,
     lines: &Lines,
-    values: &BTreeSet<(u32, u32)>,
+    values: &BTreeSet<(u32, u64)>,
     number: usize,
     position: usize,
 ) -> Result<(), NoMemory>
@@ -212,7 +212,7 @@ fn linked_already(
 }
 
 /// How many of the first values of the lists are the same, if one is a prefix of the other, else 0.
-fn same_front(before: &[u32], seen: &[u32]) -> usize
+fn same_front(before: &[u64], seen: &[u64]) -> usize
     ensures of_seen { result ≤ length seen.now }
     ensures of_before { result ≤ length before.now }
     ensures same { take result seen.now ≡ take result before.now }
@@ -294,7 +294,7 @@ fn add_pair(
 }
 
 /// The transaction that appends the value to the key, and the position of the append in it.
-fn position_in(appends: &AppendIndex, key: u32, value: u32) -> (usize, usize)
+fn position_in(appends: &AppendIndex, key: u32, value: u64) -> (usize, usize)
     requires { (x : ℕ × ℕ) × (position_of appends.now key value ≡ Some x) }
     ensures { position_of appends.now key value ≡ Some result }
 {
@@ -409,7 +409,7 @@ fn add_unseen(
     links: &mut Vec<Link>,
     history: &[Transaction],
     lines: &Lines,
-    values: &BTreeSet<(u32, u32)>,
+    values: &BTreeSet<(u32, u64)>,
     number: usize,
     position: usize,
 ) -> Result<(), NoMemory>
@@ -443,7 +443,7 @@ fn add_unseen(
 fn end_before(
     history: &[Transaction],
     lines: &Lines,
-    values: &BTreeSet<(u32, u32)>,
+    values: &BTreeSet<(u32, u64)>,
     number: usize,
     position: usize,
 ) -> Option<usize>
@@ -467,7 +467,7 @@ pub(crate) fn append_of(
     history: &[Transaction],
     number: usize,
     position: usize,
-) -> Option<(u32, u32)>
+) -> Option<(u32, u64)>
     ensures some { IfSome result (λ x. AppendAt history.now number position x.0 x.1) }
     ensures none { IsNone result → (k v : ℕ) → MayRun history.now number → ¬ AppendAt history.now number position k v }
 {
@@ -485,7 +485,7 @@ pub(crate) fn append_of(
 fn first_unknown(
     alloc: Global,
     appends: &AppendIndex,
-    line: &[u32],
+    line: &[u64],
     read: Read<'_>,
 ) -> Result<Option<(usize, usize)>, NoMemory>
     requires { AreIndexed (position_of appends.now) read.key line.now }
@@ -501,7 +501,7 @@ fn first_unknown(
 }
 
 /// The same where the line starts with what the reader saw.
-fn first_beyond(appends: &AppendIndex, line: &[u32], read: Read<'_>) -> Option<(usize, usize)>
+fn first_beyond(appends: &AppendIndex, line: &[u64], read: Read<'_>) -> Option<(usize, usize)>
     requires indexed { AreIndexed (position_of appends.now) read.key line.now }
     requires starts { IsPrefix read.seen.now line.now }
     ensures some { IfSome result (λ x.
@@ -518,7 +518,7 @@ fn first_beyond(appends: &AppendIndex, line: &[u32], read: Read<'_>) -> Option<(
 }
 
 /// The appender of the value, and the position of the append, if the reader neither saw nor appends it.
-fn unknown_in(appends: &AppendIndex, read: Read<'_>, value: u32) -> Option<(usize, usize)>
+fn unknown_in(appends: &AppendIndex, read: Read<'_>, value: u64) -> Option<(usize, usize)>
     ensures some { IfSome result (λ x. (¬ Has read.entry.seen.now value) × (position_of appends.now read.entry.key value ≡ Some x)
         × (x.0 ≢ read.entry.reader)) }
     ensures none { IsNone result → Has read.entry.seen.now value ⊎ ((position_of appends.now read.entry.key value ≡ None)
@@ -535,7 +535,7 @@ fn unknown_in(appends: &AppendIndex, read: Read<'_>, value: u32) -> Option<(usiz
 fn first_in_set(
     alloc: Global,
     appends: &AppendIndex,
-    line: &[u32],
+    line: &[u64],
     read: Read<'_>,
 ) -> Result<Option<(usize, usize)>, NoMemory>
     requires { AreIndexed (position_of appends.now) read.key line.now }
@@ -556,10 +556,10 @@ fn first_in_set(
 /// The appender of the value to the key, and the position of the append, if the reader neither saw nor appends it.
 fn unknown_at(
     appends: &AppendIndex,
-    seen: &BTreeSet<u32>,
+    seen: &BTreeSet<u64>,
     reader: usize,
     key: u32,
-    value: u32,
+    value: u64,
 ) -> Option<(usize, usize)>
     ensures some { IfSome result (λ x. (¬ has_number seen.now value) × (position_of appends.now key value ≡ Some x) × (x.0 ≢ reader)) }
     ensures none { IsNone result → has_number seen.now value
@@ -576,7 +576,7 @@ fn unknown_at(
 }
 
 /// The numbers of the list.
-fn set_of(alloc: Global, values: &[u32]) -> Result<BTreeSet<u32>, NoMemory>
+fn set_of(alloc: Global, values: &[u64]) -> Result<BTreeSet<u64>, NoMemory>
     ensures { IfOk result (λ set. (v : ℕ) → has_number set v ↔ Has values.now v) }
 {
     let mut set = BTreeSet::new(alloc);

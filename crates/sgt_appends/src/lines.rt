@@ -23,7 +23,7 @@ pub struct Line {
     /// The number of the line among those of all keys.
     pub number: usize,
     /// Its values.
-    pub values: Vec<u32>,
+    pub values: Vec<u64>,
 }
 
 /// The lines of the keys that committed transactions read.
@@ -120,8 +120,8 @@ impl Lines {
         &mut self,
         alloc: Global,
         key: u32,
-        seen: &[u32],
-        later: &[u32],
+        seen: &[u64],
+        later: &[u64],
     ) -> Result<(), NoMemory>
         ensures { OnOk result (IsOffered (line_in self.old) (line_in self.new) (keys_in self.old) (keys_in self.new) key
             (seen.now ++ later.now)) }
@@ -141,7 +141,7 @@ impl Lines {
     }
 
     /// Makes the values the line of the key, with this number.
-    fn put(&mut self, key: u32, number: usize, values: Vec<u32>) -> Result<(), NoMemory>
+    fn put(&mut self, key: u32, number: usize, values: Vec<u64>) -> Result<(), NoMemory>
         ensures line { OnOk result (IsWithLine (line_in self.old) (line_in self.new) key number values.items) }
         ensures keys { OnOk result (keys_in self.new ≡ keys_in self.old) }
     {
@@ -151,7 +151,7 @@ impl Lines {
 }
 
 /// The values of both lists.
-fn joined(alloc: Global, seen: &[u32], later: &[u32]) -> Result<Vec<u32>, NoMemory>
+fn joined(alloc: Global, seen: &[u64], later: &[u64]) -> Result<Vec<u64>, NoMemory>
     ensures { IfOk result (λ values. values.items ≡ seen.now ++ later.now) }
 {
     let mut values = Vec::from_slice(alloc, seen)?;
@@ -160,14 +160,14 @@ fn joined(alloc: Global, seen: &[u32], later: &[u32]) -> Result<Vec<u32>, NoMemo
 }
 
 /// Whether the two lists together have at most this many values.
-fn fit(most: usize, seen: &[u32], later: &[u32]) -> bool
+fn fit(most: usize, seen: &[u64], later: &[u64]) -> bool
     ensures { IsTrue result ↔ (length (seen.now ++ later.now) ≤ most) }
 {
     seen.len() <= most && later.len() <= most - seen.len()
 }
 
 /// The values of all lines, by key.
-pub fn all_values(alloc: Global, lines: &Lines) -> Result<BTreeSet<(u32, u32)>, NoMemory>
+pub fn all_values(alloc: Global, lines: &Lines) -> Result<BTreeSet<(u32, u64)>, NoMemory>
     requires { AreNumbered (line_in lines.now) (keys_in lines.now) }
     ensures { IfOk result (λ set. (k v : ℕ) → has_pair set k v ↔ Has (values_in (line_in lines.now) k) v) }
 {
@@ -179,7 +179,7 @@ pub fn all_values(alloc: Global, lines: &Lines) -> Result<BTreeSet<(u32, u32)>, 
 }
 
 /// Adds the values of the key's line.
-fn note_line(set: &mut BTreeSet<(u32, u32)>, lines: &Lines, key: u32) -> Result<(), NoMemory>
+fn note_line(set: &mut BTreeSet<(u32, u64)>, lines: &Lines, key: u32) -> Result<(), NoMemory>
     ensures { OnOk result ((k v : ℕ) → has_pair set.new k v
         ↔ (has_pair set.old k v ⊎ ((key ≡ k) × Has (values_in (line_in lines.now) key) v))) }
 {
@@ -190,7 +190,7 @@ fn note_line(set: &mut BTreeSet<(u32, u32)>, lines: &Lines, key: u32) -> Result<
 }
 
 /// Adds the values of the key.
-fn note_values(set: &mut BTreeSet<(u32, u32)>, key: u32, values: &[u32]) -> Result<(), NoMemory>
+fn note_values(set: &mut BTreeSet<(u32, u64)>, key: u32, values: &[u64]) -> Result<(), NoMemory>
     ensures { OnOk result ((k v : ℕ) → has_pair set.new k v ↔ (has_pair set.old k v ⊎ ((key ≡ k) × Has values.now v))) }
 {
     for value in values {

@@ -28,7 +28,7 @@ pub struct Read<'a> {
     /// The key that was read.
     pub key: u32,
     /// The values that it saw.
-    pub seen: &'a [u32],
+    pub seen: &'a [u64],
 }
 
 /// The read at the position, if the transaction committed.
@@ -151,7 +151,7 @@ fn fault_at(
     appends: &AppendIndex,
     read: Read<'_>,
     last: &mut BTreeMap<usize, usize>,
-    value: u32,
+    value: u64,
 ) -> Result<Option<Fault>, NoMemory>
     requires { IsIndex history.now (position_of appends.now) }
     ensures fault { IfOk result (λ found. IfSome found (λ fault.
@@ -184,7 +184,7 @@ fn fault_at(
 }
 
 /// The fault of a read that saw the value, which no transaction appends that may have taken effect.
-fn unwritten(history: &[Transaction], appends: &AppendIndex, key: u32, value: u32) -> Fault
+fn unwritten(history: &[Transaction], appends: &AppendIndex, key: u32, value: u64) -> Fault
     requires index { IsIndex history.now (position_of appends.now) }
     requires none { (u : ℕ) → Appends history.now u key value → ¬ MayRun history.now u }
     ensures { (t p : ℕ) (last : Lasts) → IsFaultAt history.now (position_of appends.now) t p key last value result }
@@ -197,7 +197,7 @@ fn unwritten(history: &[Transaction], appends: &AppendIndex, key: u32, value: u3
 
 /// The fault of a read that saw these values. If two of them stand in the wrong order, and one stands there twice, that
 /// is the fault.
-fn twice_or(alloc: Global, seen: &[u32], fault: Fault) -> Result<Fault, NoMemory>
+fn twice_or(alloc: Global, seen: &[u64], fault: Fault) -> Result<Fault, NoMemory>
     ensures { IfOk result (λ reported. (reported ≡ fault) ⊎ ((v : ℕ) × (reported ≡ Twice v) × StandsBefore seen.now v v)) }
 {
     match fault {
@@ -210,7 +210,7 @@ fn twice_or(alloc: Global, seen: &[u32], fault: Fault) -> Result<Fault, NoMemory
 }
 
 /// The first value that stands in the list a second time.
-fn twice_in(alloc: Global, seen: &[u32]) -> Result<Option<u32>, NoMemory>
+fn twice_in(alloc: Global, seen: &[u64]) -> Result<Option<u64>, NoMemory>
     ensures some { IfOk result (λ found. IfSome found (λ v. StandsBefore seen.now v v)) }
     ensures none { IfOk result (λ found. IsNone found → IsOnce seen.now) }
 {
@@ -228,7 +228,7 @@ fn written_by(
     history: &[Transaction],
     appends: &AppendIndex,
     key: u32,
-    value: u32,
+    value: u64,
 ) -> Option<(usize, usize)>
     requires { IsIndex history.now (position_of appends.now) }
     ensures some { IfSome result (λ x. (position_of appends.now key value ≡ Some x) × MayRun history.now x.0) }

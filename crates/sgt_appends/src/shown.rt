@@ -104,7 +104,7 @@ fn seen_of<'a>(
     reader: usize,
     position: usize,
     key: u32,
-) -> Option<&'a [u32]>
+) -> Option<&'a [u64]>
     ensures { IfSome result (λ seen. IsSeenAt history.now reader position key seen.now) }
 {
     let read = read_of(history, reader, position)?;

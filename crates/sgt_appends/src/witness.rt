@@ -139,7 +139,7 @@ fn were_seen(
 }
 
 /// The key and the value of the transaction's append at the position.
-pub fn append_at(history: &[Transaction], transaction: usize, place: usize) -> Option<(u32, u32)>
+pub fn append_at(history: &[Transaction], transaction: usize, place: usize) -> Option<(u32, u64)>
     ensures { IfSome result (λ appended. Appends history.now transaction appended.0 appended.1) }
 {
     let transaction = history.get(transaction)?;
@@ -155,7 +155,7 @@ pub fn read_at<'a>(
     transaction: usize,
     place: usize,
     of: u32,
-) -> Option<&'a [u32]>
+) -> Option<&'a [u64]>
     ensures seen { IfSome result (λ seen. HasSeen history.now transaction of seen.now) }
     ensures own { IfSome result (λ seen. ReadAt history.now transaction place of seen.now) }
 {
@@ -170,7 +170,7 @@ pub fn read_at<'a>(
 }
 
 /// Whether the value is in the list.
-pub fn has(values: &[u32], value: u32) -> bool
+pub fn has(values: &[u64], value: u64) -> bool
     ensures { IsTrue result ↔ Has values.now value }
 {
     for x in values {
@@ -182,7 +182,7 @@ pub fn has(values: &[u32], value: u32) -> bool
 }
 
 /// Whether the first stands before the second in the list.
-pub fn stands_before(values: &[u32], first: u32, second: u32) -> bool
+pub fn stands_before(values: &[u64], first: u64, second: u64) -> bool
     ensures { IsTrue result → StandsBefore values.now first second }
 {
     for (at, x) in values.iter().enumerate() {

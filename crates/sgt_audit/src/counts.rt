@@ -7,7 +7,7 @@ use crate::outcome::Outcome;
 use crate::survey::Ends;
 
 /// How many outcomes of a kind there are.
-#[derive(Clone, Copy)]
+#[derive(Clone, Copy, Default)]
 struct Kinds {
     done: usize,
     left: usize,
@@ -34,12 +34,7 @@ fn kinds_of<N>(outcomes: &[Outcome<N>]) -> Kinds
     ensures untaken { result.untaken ≡ count_by is_untaken outcomes.now }
     ensures no_memory { result.no_memory ≡ count_by is_no_memory outcomes.now }
 {
-    let mut kinds = Kinds {
-        done: 0,
-        left: 0,
-        untaken: 0,
-        no_memory: 0,
-    };
+    let mut kinds = Kinds::default();
     for outcome in outcomes {
         let one = kind_of(outcome);
         kinds.done += one.done;
@@ -57,12 +52,7 @@ fn kind_of<N>(outcome: &Outcome<N>) -> Kinds
     ensures untaken { result.untaken ≡ count_by is_untaken (outcome.now ∷ []) }
     ensures no_memory { result.no_memory ≡ count_by is_no_memory (outcome.now ∷ []) }
 {
-    let mut kinds = Kinds {
-        done: 0,
-        left: 0,
-        untaken: 0,
-        no_memory: 0,
-    };
+    let mut kinds = Kinds::default();
     match outcome {
         Outcome::Done(_) => kinds.done = 1,
         Outcome::Left(_) => kinds.left = 1,

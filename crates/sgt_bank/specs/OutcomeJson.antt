@@ -63,6 +63,12 @@ tries_of failed (outcome.Asked n) = failed + 1
 tries_of failed (outcome.Gave attempts) = length attempts.items
 tries_of failed o = failed
 
+-- the number of the entry with which a job ended, if its outcome names one: of two commits, the lower number came first
+abbrev pub event_members : {N : Type 0} → Outcome N → List ℕ
+event_members (outcome.Done n) = joined (codes ",\"event\":" ∷ decimal n ∷ [])
+event_members (outcome.Asked n) = joined (codes ",\"event\":" ∷ decimal n ∷ [])
+event_members o = []
+
 -- the start of a job's line
 abbrev pub job_start : ℕ → List ℕ
 job_start n = joined (codes "{\"job\":" ∷ decimal n ∷ codes ",\"outcome\":" ∷ [])
@@ -73,7 +79,7 @@ job_end tries = joined (codes ",\"tries\":" ∷ decimal tries ∷ codes "}\n" �
 
 -- the line of job n
 abbrev pub outcome_json : {N : Type 0} → ℕ → ℕ → List Entry → Outcome N → List ℕ
-outcome_json n failed history o = job_start n ++ outcome_members history o ++ job_end (tries_of failed o)
+outcome_json n failed history o = job_start n ++ outcome_members history o ++ event_members o ++ job_end (tries_of failed o)
 
 -- a count, 0 if there is none
 abbrev pub count_or_zero : Option ℕ → ℕ

@@ -6,7 +6,7 @@ ghost use Rattle.sgt_bank.specs.Outputs.{WritesAll, WritesPart, IsFirstFault, Co
 use crate::gate::OpenGate;
 use crate::output::Output;
 use crate::run::write_run;
-use crate::tries::append_tries;
+use crate::tries::{Procedures, append_tries};
 use crate::watch::{Seen, Watch};
 use sgt_explain::Words;
 use sgt_input::{Fault, Sink, Source, write_all};
@@ -53,7 +53,7 @@ pub struct Options {
 /// With explanations, the second sink gets a line for each job that did not commit at its first try, by number, after
 /// the output: how it ended, with what the words say of its code, and which jobs aborted the tries that failed. A
 /// summary follows. Explanations do not affect the run. If memory runs out for them, one line says so. If a write of them fails, they end there. Neither
-/// is a fault.
+/// is a fault. `line` is as of `read_input`.
 ///
 /// # Errors
 ///
@@ -66,6 +66,7 @@ pub fn run_bank<S: Source, T: Sink, E: Sink, W: Threads + Wait + Clock + Eprint 
     errors: &mut E,
     options: Options,
     words: &Words,
+    line: &mut Option<Vec<u8>>,
 ) -> Result<(), Fault>
     requires reading { S.failures source.old + 1 < 2 ^ 64 }
     requires writing { T.failures sink.old + 1 < 2 ^ 64 }
@@ -94,13 +95,13 @@ pub fn run_bank<S: Source, T: Sink, E: Sink, W: Threads + Wait + Clock + Eprint 
     } = options;
     if !is_watched(&options) {
         write_run(
-            rt, alloc, source, sink, workers, tries, output, most, &OpenGate,
+            rt, alloc, source, sink, workers, tries, output, most, &OpenGate, line,
         )?;
         return Ok(());
     }
     let watch = Watch::new(rt, alloc, shows_progress);
     let report = write_run(
-        rt, alloc, source, sink, workers, tries, output, most, &watch,
+        rt, alloc, source, sink, workers, tries, output, most, &watch, line,
     )?;
     if let Explanations::Tries = explanations {
         explain_tries(alloc, errors, watch.into_seen(), &report, words);
@@ -145,6 +146,7 @@ fn tries_text(
     let Seen {
         failed,
         has_lost,
+        takes,
         ..
     } = seen;
     if has_lost {
@@ -158,7 +160,10 @@ fn tries_text(
         &mut failed,
         &report.history,
         report.outcomes.as_slice(),
-        words,
+        Procedures {
+            words,
+            takes: takes.as_slice(),
+        },
     )?;
     Ok(text)
 }

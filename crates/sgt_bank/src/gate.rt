@@ -1,5 +1,6 @@
 //! The gate of a run without an observer.
 use sgt_model::NoMemory;
+use sgt_proc::Checked;
 use sgt_workers::{Gate, Outcome, Pass};
 use std::alloc::Global;
 use std::convert::Infallible;
@@ -7,8 +8,11 @@ use std::convert::Infallible;
 /// The most jobs that a worker takes at once.
 pub(crate) const MOST_AT_ONCE: usize = 16;
 
-/// What a gate has seen of failed tries.
+/// What a gate learns of the procedures of a run, and what it has seen of failed tries.
 pub(crate) trait Failures {
+    /// These procedures of line 1 come after those of SmallBank. Called once, before the run.
+    fn opened(&self, procedures: &[Checked]);
+
     /// How often each of so many jobs was tried in vain. A list that ends early says that it was not seen.
     ///
     /// `NoMemory` if an allocation failed, for this list or for a try during the run.
@@ -34,6 +38,8 @@ impl Gate for OpenGate {
 }
 
 impl Failures for OpenGate {
+    fn opened(&self, _procedures: &[Checked]) {}
+
     fn failures(&self, alloc: Global, _jobs: usize) -> Result<Vec<u32>, NoMemory> {
         Ok(Vec::new(alloc))
     }

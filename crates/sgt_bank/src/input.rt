@@ -5,13 +5,15 @@ ghost use Rattle.sgt_bank.specs.Inputs.{InputRequests, InputFails};
 ghost use Rattle.sgt_input.specs.Ends.{IsOfInput};
 
 use crate::jobs::read_jobs;
+use crate::last_line::copy_of_last;
 use sgt_format::Opening;
 use sgt_input::{Fault, Lines, Source, opening_of, read_records};
 use sgt_workers::Job;
 use std::alloc::Global;
 
 /// Reads an input of at most so many bytes: its opening, the records after it, and its jobs. The opening must allow as
-/// many live transactions as there are workers.
+/// many live transactions as there are workers. `line` gets a copy of the line of the fault, if the fault has one, and of
+/// line 1 otherwise: for a second look that explains the fault. It gets none if memory runs out.
 ///
 /// # Errors
 ///
@@ -21,6 +23,7 @@ pub fn read_input<S: Source>(
     source: &mut S,
     workers: u32,
     most: usize,
+    line: &mut Option<Vec<u8>>,
 ) -> Result<(Opening, Vec<Job>), Fault>
     requires countable { S.failures source.old + 1 < 2 ^ 64 }
     requires most { most ≤ 4294967296 }
@@ -41,8 +44,20 @@ pub fn read_input<S: Source>(
     if !lines.next_line(source)? {
         return Err(Fault::NoOpening);
     }
+    *line = copy_of_last(alloc, &lines);
     let opening = opening_of(alloc, workers, &lines)?;
-    let opening = read_records(alloc, &mut lines, source, opening)?;
-    let jobs = read_jobs(alloc, &mut lines, source)?;
-    Ok((opening, jobs))
+    let opening = match read_records(alloc, &mut lines, source, opening) {
+        Ok(opening) => opening,
+        Err(fault) => {
+            *line = copy_of_last(alloc, &lines);
+            return Err(fault);
+        }
+    };
+    match read_jobs(alloc, &mut lines, source) {
+        Ok(jobs) => Ok((opening, jobs)),
+        Err(fault) => {
+            *line = copy_of_last(alloc, &lines);
+            Err(fault)
+        }
+    }
 }

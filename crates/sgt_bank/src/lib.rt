@@ -22,6 +22,7 @@ mod command;
 mod gate;
 mod input;
 mod jobs;
+mod last_line;
 mod outcome_json;
 mod outcome_text;
 mod output;

@@ -1,6 +1,6 @@
 //! The outcome of a job as an object of JSON.
 ghost use Rattle.std.specs.Prelude.{◌≡◌, ◌++◌, slice_get, OnOk};
-ghost use Rattle.sgt_bank.specs.OutcomeJson.{ask_members, cause_members, code_members, commit_members, job_end, job_start, members_at, outcome_json, outcome_members, refusal_members, tries_of};
+ghost use Rattle.sgt_bank.specs.OutcomeJson.{ask_members, cause_members, code_members, commit_members, event_members, job_end, job_start, members_at, outcome_json, outcome_members, refusal_members, tries_of};
 
 use sgt_log::{EntryRef, History};
 use sgt_model::{Cause, Reply};
@@ -21,6 +21,7 @@ pub(crate) fn append_outcome_json<N>(
 {
     append_start(text, number)?;
     append_members(text, outcome, history)?;
+    append_event(text, outcome)?;
     append_end(text, tries_of(failed, outcome))
 }
 
@@ -82,6 +83,23 @@ fn append_members<N>(
         Outcome::Left(_) => text.extend_from_slice(b"\"left\""),
         Outcome::Untaken => text.extend_from_slice(b"\"untaken\""),
         Outcome::NoMemory => text.extend_from_slice(b"\"no memory\""),
+    }
+}
+
+/// Appends the number of the entry with which the job ended, if the outcome names one.
+fn append_event<N>(text: &mut Vec<u8>, outcome: &Outcome<N>) -> Result<(), AllocError>
+    ensures { OnOk result (text.new.items ≡ text.old.items ++ event_members outcome.now) }
+{
+    match outcome {
+        Outcome::Done(n) | Outcome::Asked(n) => append_pieces(
+            text,
+            &[Piece::Words(b",\"event\":"), Piece::Number(*n)],
+        ),
+        Outcome::Gave(_)
+        | Outcome::Refused(_)
+        | Outcome::Left(_)
+        | Outcome::Untaken
+        | Outcome::NoMemory => Ok(()),
     }
 }
 

@@ -63,7 +63,7 @@ fn run_after_opening<G: Gate<Note = Infallible> + Sync, W: Threads + Wait + Sync
 /// # Errors
 ///
 /// The first fault of the input, `Reading`, `Spawn`, `Mismatch` and `NoMemory`.
-fn run_input<S: Source, G: Gate<Note = Infallible> + Sync, W: Threads + Wait + Sync>(
+fn run_input<S: Source, G: Gate<Note = Infallible> + Failures + Sync, W: Threads + Wait + Sync>(
     rt: &W,
     alloc: Global,
     source: &mut S,
@@ -71,6 +71,7 @@ fn run_input<S: Source, G: Gate<Note = Infallible> + Sync, W: Threads + Wait + S
     tries: u32,
     most: usize,
     gate: &G,
+    line: &mut Option<Vec<u8>>,
 ) -> Result<Report<Infallible>, Fault>
     requires reading { S.failures source.old + 1 < 2 ^ 64 }
     requires most { most ≤ 4294967296 }
@@ -85,7 +86,8 @@ fn run_input<S: Source, G: Gate<Note = Infallible> + Sync, W: Threads + Wait + S
 {
     // In every legal history after the opening SmallBank's procedures did the bank's arithmetic.
     opened_is_bank();
-    let (opening, jobs) = read_input(alloc, source, workers, most)?;
+    let (opening, jobs) = read_input(alloc, source, workers, most, line)?;
+    gate.opened(opening.procedures.as_slice());
     let report = run_after_opening(rt, alloc, opening, jobs.as_slice(), workers, tries, gate)?;
     Ok(report)
 }
@@ -119,7 +121,7 @@ fn write_text<T: Sink>(sink: &mut T, text: &[u8]) -> Result<(), Fault>
 }
 
 /// Runs the jobs of an input of at most so many bytes and writes the output. The gate is called as by `run` of
-/// `sgt_workers`.
+/// `sgt_workers`. `line` is as of `read_input`.
 ///
 /// # Errors
 ///
@@ -139,6 +141,7 @@ pub(crate) fn write_run<
     output: Output,
     most: usize,
     gate: &G,
+    line: &mut Option<Vec<u8>>,
 ) -> Result<Report<Infallible>, Fault>
     requires reading { S.failures source.old + 1 < 2 ^ 64 }
     requires writing { T.failures sink.old + 1 < 2 ^ 64 }
@@ -153,7 +156,7 @@ pub(crate) fn write_run<
     ensures reads { CountsReads result most (S.given source.old) (S.given source.new) (S.failures source.old) (S.failures source.new) }
     ensures writes { CountsWrites result (T.failures sink.old) (T.failures sink.new) }
 {
-    let report = run_input(rt, alloc, source, workers, tries, most, gate)?;
+    let report = run_input(rt, alloc, source, workers, tries, most, gate, line)?;
     // The laws of every legal history in the textbook's own classes; and that its transcript spells it.
     legal_are_commit_ordered();
     legal_are_serializable();
@@ -214,6 +217,7 @@ pub fn run_jobs<S: Source, T: Sink, W: Threads + Wait + Sync>(
         Output::Report,
         DEFAULT_BYTES,
         &OpenGate,
+        &mut None,
     )?;
     Ok(())
 }

@@ -4,7 +4,7 @@ use crate::watch::FailedTry;
 use sgt_explain::{Words, append_code, append_refusal, refusal_of};
 use sgt_format::append_numbered;
 use sgt_log::{EntryRef, History};
-use sgt_model::{Cause, Entry, Event, NoMemory, Reply, Tid};
+use sgt_model::{Cause, EMPTY_PROCEDURE, Entry, Event, NoMemory, Reply, Tid};
 use sgt_workers::Outcome;
 use std::alloc::{AllocError, Global};
 
@@ -25,6 +25,15 @@ struct Known {
     procedure: u16,
     end: End,
     job: Option<usize>,
+}
+
+/// What is known of the procedures of a run.
+#[derive(Clone, Copy)]
+pub(crate) struct Procedures<'a> {
+    /// What their codes mean.
+    pub words: &'a Words,
+    /// How many arguments each procedure of line 1 takes, as far as this is known.
+    pub takes: &'a [u8],
 }
 
 /// How many jobs ended in each way, and how many tries were made.
@@ -49,7 +58,7 @@ pub(crate) fn append_tries<N>(
     failed: &mut Vec<FailedTry>,
     history: &History,
     outcomes: &[Outcome<N>],
-    words: &Words,
+    procedures: Procedures<'_>,
 ) -> Result<(), NoMemory> {
     failed.sort_by_key(|failed| failed.job)?;
     let known = known_of(alloc, history, failed.as_slice(), outcomes)?;
@@ -71,11 +80,11 @@ pub(crate) fn append_tries<N>(
             coded,
             known.as_slice(),
             history,
-            words,
+            procedures,
         )?;
         rest = others;
     }
-    append_codes(text, words, &mut codes)?;
+    append_codes(text, procedures.words, &mut codes)?;
     tally.append(text, outcomes.len())?;
     Ok(())
 }
@@ -237,15 +246,15 @@ fn append_job<N>(
     coded: Option<Coded>,
     known: &[Known],
     history: &History,
-    words: &Words,
+    procedures: Procedures<'_>,
 ) -> Result<(), NoMemory> {
     if failed.is_empty() && matches!(outcome, Outcome::Done(_)) {
         return Ok(());
     }
     append_numbered(text, b"job ", job)?;
     match coded {
-        Some(coded) => append_coded(text, failed.len(), coded, words)?,
-        None => append_outcome(text, failed.len(), outcome, history)?,
+        Some(coded) => append_coded(text, failed.len(), coded, procedures.words)?,
+        None => append_outcome(text, failed.len(), outcome, history, procedures.takes)?,
     }
     for (index, failed) in failed.iter().enumerate() {
         append_numbered(text, b"; try ", index.saturating_add(1))?;
@@ -274,6 +283,7 @@ fn append_outcome<N>(
     failed: usize,
     outcome: &Outcome<N>,
     history: &History,
+    takes: &[u8],
 ) -> Result<(), NoMemory> {
     match outcome {
         Outcome::Done(_) => append_numbered(
@@ -284,7 +294,7 @@ fn append_outcome<N>(
         Outcome::Gave(_) => append_numbered(text, b": given up at try ", failed)?,
         Outcome::Refused(number) => {
             text.extend_from_slice(b": refused: ")?;
-            append_refused(text, history, *number)?;
+            append_refused(text, history, *number, takes)?;
         }
         _ => text.extend_from_slice(b": no memory")?,
     }
@@ -307,11 +317,16 @@ fn code_at(history: &History, number: u64) -> u16 {
 }
 
 // Appends why the entry at a position refuses a start.
-fn append_refused(text: &mut Vec<u8>, history: &History, number: u64) -> Result<(), NoMemory> {
+fn append_refused(
+    text: &mut Vec<u8>,
+    history: &History,
+    number: u64,
+    takes: &[u8],
+) -> Result<(), NoMemory> {
     let Some(Entry { event, reply }) = history.get(number as usize) else {
         return Ok(());
     };
-    match refusal_of(&event, &reply, taken_by(&event)) {
+    match refusal_of(&event, &reply, taken_by(&event, takes)) {
         Some(refusal) => append_refusal(text, &refusal),
         None => Ok(()),
     }
@@ -320,10 +335,17 @@ fn append_refused(text: &mut Vec<u8>, history: &History, number: u64) -> Result<
 /// How many arguments SmallBank's procedures take, by number.
 const TAKES: [u8; 5] = [1, 2, 2, 2, 2];
 
-// How many arguments the procedure takes that the event starts, if it is one of SmallBank.
-fn taken_by(event: &Event) -> Option<u8> {
+// How many arguments the procedure takes that the event starts, if that is known. Those of line 1 take so many.
+fn taken_by(event: &Event, takes: &[u8]) -> Option<u8> {
     match event {
-        Event::Start { procedure, .. } => TAKES.get(usize::from(*procedure)).copied(),
+        Event::Start { procedure, .. } if *procedure == EMPTY_PROCEDURE => Some(0),
+        Event::Start { procedure, .. } => {
+            let number = usize::from(*procedure);
+            match number.checked_sub(TAKES.len()) {
+                Some(own) => takes.get(own).copied(),
+                None => TAKES.get(number).copied(),
+            }
+        }
         _ => None,
     }
 }

@@ -1,6 +1,7 @@
 //! A gate that watches a run.
 use crate::gate::{Failures, MOST_AT_ONCE};
 use sgt_model::{NoMemory, Tid};
+use sgt_proc::Checked;
 use sgt_workers::{Gate, Outcome, Pass};
 use std::alloc::Global;
 use std::convert::Infallible;
@@ -27,6 +28,8 @@ pub(crate) struct Seen {
     pub failed: Vec<FailedTry>,
     /// Whether memory ran out for one of these.
     pub has_lost: bool,
+    /// How many arguments each procedure of line 1 takes. It ends early if memory ran out.
+    pub takes: Vec<u8>,
     // How many jobs have ended.
     ended: u32,
     // When progress was last reported, if it is to be reported.
@@ -55,6 +58,7 @@ impl<'a, W: Clock> Watch<'a, W> {
             seen: Mutex::new(Seen {
                 failed: Vec::new(alloc),
                 has_lost: false,
+                takes: Vec::new(alloc),
                 ended: 0,
                 reported,
             }),
@@ -101,6 +105,15 @@ impl<W: Wait + Clock + Eprint> Gate for Watch<'_, W> {
 }
 
 impl<W: Wait> Failures for Watch<'_, W> {
+    fn opened(&self, procedures: &[Checked]) {
+        let mut seen = self.seen.lock(self.rt);
+        for procedure in procedures {
+            if seen.takes.push(procedure.args()).is_err() {
+                return;
+            }
+        }
+    }
+
     fn failures(&self, alloc: Global, jobs: usize) -> Result<Vec<u32>, NoMemory> {
         let seen = self.seen.lock(self.rt);
         if seen.has_lost {

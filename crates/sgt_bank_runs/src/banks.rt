@@ -47,7 +47,7 @@ pub fn run_input_bank<W: Print + Input + Threads + Wait + Sync>(
     gates: &Gates,
 ) -> io::Result<()> {
     let mut reader = Reader::new(rt.reader());
-    match read_input(alloc, &mut reader, pool.workers, DEFAULT_BYTES) {
+    match read_input(alloc, &mut reader, pool.workers, DEFAULT_BYTES, &mut None) {
         Ok((opening, jobs)) => print_bank(rt, alloc, opening, jobs.as_slice(), pool, gates),
         Err(_) => Err(io::Error::from(ErrorKind::InvalidInput)),
     }

@@ -29,6 +29,7 @@ kind_of (wrote k None) = 7
 abbrev pub said : SgtAccess → ℕ × CallerAccess
 said s = (s.kind, access_in s)
 
+-- an access with the number of its kind
 abbrev pub kinded : CallerAccess → ℕ × CallerAccess
 kinded x = (kind_of x, x)
 

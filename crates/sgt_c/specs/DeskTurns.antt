@@ -152,22 +152,27 @@ pub record MakeTurn (ticket : Ticket) (requested : Asked) (before : DeskState) (
 
 -- ---- turns, as the structs say them
 
+-- the struct of a start says a turn of it, and the status what comes next
 abbrev pub MakesStart : ℕ → List ℤ → ℕ → ℕ → SgtAsk → SgtAsk → DeskState → DeskState → Type 0
 MakesStart procedure args now status ask to before after = (turn : Result Turn NoMemory) × (next : Ask) × (status ≡ status_of turn)
     × IsAsk to next × StartTurn procedure args now before (ask_in ask) after next turn
 
+-- the same of a commit
 abbrev pub MakesCommit : Ticket → ℕ → ℕ → SgtAsk → SgtAsk → DeskState → DeskState → Type 0
 MakesCommit ticket now status ask to before after = (turn : Result Turn NoMemory) × (next : Ask) × (status ≡ status_of turn)
     × IsAsk to next × CommitTurn ticket now before (ask_in ask) after next turn
 
+-- the same of a run
 abbrev pub MakesRun : ℕ → List ℤ → ℕ → ℕ → SgtRun → SgtRun → DeskState → DeskState → Type 0
 MakesRun procedure args now status run to before after = (turn : Result Turn NoMemory) × (next : Run) × (status ≡ status_of turn)
     × IsRun to next × RunTurn procedure args now before (run_in run) after next turn
 
+-- the same of a cut
 abbrev pub MakesCut : ℕ → ℕ → SgtAsk → SgtAsk → DeskState → DeskState → Type 0
 MakesCut now status ask to before after = (turn : Result Turn NoMemory) × (next : Ask) × (status ≡ status_of turn)
     × IsAsk to next × CutTurn now before (ask_in ask) after next turn
 
+-- the same of an event that never rests
 abbrev pub Makes : Ticket → Asked → ℕ → DeskState → DeskState → Type 0
 Makes ticket requested status before after = (turn : Result Turn NoMemory) × (short : ShortReply) × (status ≡ status_of turn)
     × MakeTurn ticket requested before short after turn

@@ -14,6 +14,7 @@ pub mod Asked
 pub mod Entries
 pub mod ReplayedCalls
 pub mod Writes
+pub mod Limits
 pub mod Calls
 pub mod Rows
 pub mod Runs
@@ -28,3 +29,4 @@ pub mod ProcedureTexts
 pub mod DeskStructs
 pub mod DeskTurns
 pub mod SelfWaits
+pub mod Decisions

@@ -73,13 +73,13 @@ pub extern "C" fn sgt_calls(
 
 /// How many calls were written, and up to which position the entries were read.
 #[derive(Clone, Copy)]
-struct Passed {
-    count: usize,
-    next: usize,
+pub struct Passed {
+    pub count: usize,
+    pub next: usize,
 }
 
 /// Writes the calls from a position on, at most as many as fit. None if the history has fewer entries than the position.
-fn pass(history: &History, from: u64, to: &mut [SgtCall]) -> Option<Passed>
+pub fn pass(history: &History, from: u64, to: &mut [SgtCall]) -> Option<Passed>
     requires { IsLegal history.now.entries }
     ensures passed { IfSome result (λ p. ArePassed history.now.entries from to.new p.count p.next) }
     ensures rest { IfSome result (λ p. drop p.count to.new ≡ drop p.count to.old) }

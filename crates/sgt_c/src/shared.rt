@@ -4,12 +4,15 @@
 //! the desk of the engine in a handle, and says what comes next. So each promise of the desk's contracts holds of it. The header is
 //! `bindings/c/sgt_desk.h`.
 
+pub mod alone;
 pub mod ask_struct;
 mod committing;
 mod cutting;
 pub mod desk_struct;
+pub mod handing_on;
 pub mod lent;
 mod making;
+pub mod planning;
 pub mod run_struct;
 mod running;
 mod starting;

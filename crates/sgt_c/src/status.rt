@@ -33,6 +33,9 @@ pub const TOO_MANY: u32 = 9;
 /// Another call is in the engine.
 pub const BUSY: u32 = 10;
 
+/// The call would wait for its own thread, without a deadline.
+pub const SELF_WAIT: u32 = 11;
+
 /// The deadline has come.
 pub const TIMED_OUT: u32 = 12;
 

@@ -1,6 +1,9 @@
 -- The words on operations that there are, or are not.
-use Rattle.std.proofs.Common.{◌≡◌, ◌<◌, ◌++◌, ◌∙◌, ℕ, List, [], ◌∷◌, length, append_assoc, Option, Some, None, refl, ap, sym, append-nil, arith}
+use Rattle.std.proofs.Common.{◌≡◌, ◌<◌, ◌+◌, ◌++◌, ◌∙◌, ℕ, List, [], ◌∷◌, length, get_or, take, append_assoc, Option, Some, None, refl, ap, sym, append-nil, arith}
 use Rattle.std.specs.Prelude.{codes, count_by}
+use Rattle.std.specs.List.{flat_map}
+use Rattle.std.proofs.lemmas.Grind.{flat_map-append}
+use Rattle.std.proofs.lemmas.List.{take_more}
 use Rattle.std.proofs.lemmas.Bool.{ne_eqb}
 use Rattle.std.specs.Fmt.{decimal}
 use Rattle.sgt_appends.specs.declared.transaction.Operation.{Operation}
@@ -27,6 +30,14 @@ pub grow_number : (start before after : List ℕ) (came words number : List ℕ)
 grow_number start before after came words number first second =
     second ∙ ap (λ l. (l ++ words) ++ number) first ∙ ap (λ l. l ++ number) (append_assoc start came words)
     ∙ append_assoc start (came ++ words) number
+
+-- the texts of one item more
+pub each_next : {X : Type 0} (f : X → List ℕ) (xs : List X) (i : ℕ) (d : X) → i < length xs
+    → flat_map f (take (i + 1) xs) ≡ flat_map f (take i xs) ++ f (get_or xs i d)
+each_next f xs i d within =
+    ap (flat_map f) (take_more xs i d within)
+    ∙ (flat_map-append f (take i xs) (get_or xs i d ∷ [])
+    ∙ ap (λ l. flat_map f (take i xs) ++ l) (append-nil (f (get_or xs i d))))
 
 -- the member on the entries that were skipped, of which there are some
 pub some_skipped : (start before after : List ℕ) (n : ℕ) → 0 < n → before ≡ start ++ codes ",\"skipped\":" → after ≡ before ++ decimal n

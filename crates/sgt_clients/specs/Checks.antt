@@ -13,7 +13,7 @@ use Rattle.sgt_clients.specs.declared.run.ClientsOutput.{ClientsOutput}
 use Rattle.sgt_clients.specs.declared.run.ClientsOutput.TheVariants as output
 use Rattle.sgt_clients.specs.GraphText.{graph_text}
 use Rattle.sgt_clients.specs.Inputs.{AreClients}
-use Rattle.sgt_clients.specs.LevelJson.{json_text}
+use Rattle.sgt_clients.specs.Reports.{json_text}
 use Rattle.sgt_clients.specs.Levels.{is_strict, keeps_time, IsOfLevel, IsAnswer, answer_of, strongest_of, AreFound}
 use Rattle.sgt_clients.specs.Reports.{report_text}
 

@@ -1,8 +1,8 @@
 -- What the objects of an input spell: the operations of transactions, and how these begin and end.
-use Rattle.std.specs.Prelude.{◌≡◌, ◌≢◌, ◌⊎◌, ℕ, Bool, true, false, List, [], ◌∷◌, ◌++◌, Option, Some, None, map, slice_get, codes, if◌then◌else◌}
-use Rattle.std.specs.Fmt.{decimal}
-use Rattle.serde_json.specs.Data.{Data, null, number, unsigned, string}
-use Rattle.serde_json.specs.Find.{get}
+use Rattle.std.specs.Prelude.{◌≡◌, ◌≢◌, ◌⊎◌, ℕ, ℤ, Bool, true, false, List, [], ◌∷◌, ◌++◌, Option, Some, None, option_and_then, map, slice_get, codes, if◌then◌else◌}
+use Rattle.std.specs.Fmt.{decimal, signed_decimal}
+use Rattle.serde_json.specs.Data.{Data, null, number, unsigned, negative, string}
+use Rattle.serde_json.specs.Find.{get, as_number, as_i64}
 use Rattle.sgt_format.specs.Trees.{list}
 use Rattle.sgt_appends.specs.declared.transaction.Operation.{Operation}
 use Rattle.sgt_appends.specs.declared.transaction.Operation.TheVariants.{Append, Read}
@@ -10,6 +10,7 @@ use Rattle.sgt_appends.specs.declared.transaction.Status.TheVariants.{Committed,
 use Rattle.sgt_clients.specs.declared.entry.Kind.{Kind}
 use Rattle.sgt_clients.specs.declared.entry.Kind.TheVariants.{Invoked, Ended}
 use Rattle.sgt_clients.specs.declared.entry.Entry.{Entry}
+use Rattle.sgt_clients.specs.Values.{whole_of}
 use Rattle.sgt_clients.specs.declared.access.Access.{Access}
 use Rattle.sgt_clients.specs.declared.access.Access.TheVariants.{Appends, Reads}
 
@@ -17,23 +18,32 @@ use Rattle.sgt_clients.specs.declared.access.Access.TheVariants.{Appends, Reads}
 abbrev pub name_text : Data → Option (List ℕ)
 name_text (string text) = Some text
 name_text (number (unsigned n)) = Some (decimal n)
+name_text (number (negative z)) = Some (signed_decimal z)
 name_text tree = None
 
 -- the key or process of this number, among these, is the one that the tree names
 abbrev pub Names : List (List ℕ) → Data → ℕ → Type 0
 Names names tree k = (text : List ℕ) × (name_text tree ≡ Some text) × (slice_get names k ≡ Some text)
 
--- the tree of a value
-abbrev pub value_tree : ℕ → Data
-value_tree v = number (unsigned v)
+-- the whole number that the tree is, if it is one
+abbrev pub whole_in : Data → Option ℤ
+whole_in tree = option_and_then as_i64 (as_number tree)
+
+-- the whole number that a value is, as an option
+abbrev pub some_whole : ℕ → Option ℤ
+some_whole v = Some (whole_of v)
+
+-- the trees are these values
+abbrev pub SpellEachValue : List Data → List ℕ → Type 0
+SpellEachValue trees values = map whole_in trees ≡ map some_whole values
 
 -- the tree spells what a read saw: these values, and `null` is the empty list
 abbrev pub SpellsValues : Data → List ℕ → Type 0
-SpellsValues what values = (list what ≡ Some (map value_tree values)) ⊎ ((what ≡ null) × (values ≡ []))
+SpellsValues what values = ((trees : List Data) × (list what ≡ Some trees) × SpellEachValue trees values) ⊎ ((what ≡ null) × (values ≡ []))
 
 -- a word, a key and what follows spell the operation
 abbrev pub SpellsAs : List (List ℕ) → List ℕ → Data → Data → Operation → Type 0
-SpellsAs keys word key what (Append k value) = (word ≡ codes "append") × Names keys key k × (what ≡ value_tree value)
+SpellsAs keys word key what (Append k value) = (word ≡ codes "append") × Names keys key k × (whole_in what ≡ some_whole value)
 SpellsAs keys word key what (Read k values) = (word ≡ codes "r") × Names keys key k × SpellsValues what values.items
 
 -- the tree spells the operation

@@ -1,4 +1,4 @@
--- The members on the levels of isolation, and the whole object of JSON.
+-- The members on the levels of isolation.
 use Rattle.std.specs.Prelude.{◌++◌, ℕ, Bool, List, [], Option, Some, None, codes, if◌then◌else◌}
 use Rattle.std.specs.Fmt.{decimal}
 use Rattle.sgt_levels.specs.declared.levels.Writes.{Writes}
@@ -20,7 +20,7 @@ use Rattle.sgt_clients.specs.declared.level.Level.{Level}
 use Rattle.sgt_clients.specs.declared.level.Level.TheVariants.{ReadUncommitted, ReadCommitted, SnapshotIsolation, Serializable, StrictSerializable}
 use Rattle.sgt_clients.specs.declared.level_findings.LevelFindings.{LevelFindings}
 use Rattle.sgt_clients.specs.declared.level_findings.Weaker.{Weaker}
-use Rattle.sgt_clients.specs.JsonText.{items_text, ends_text, anomaly_member, order_member, reader_members, finding_members, head_text}
+use Rattle.sgt_clients.specs.JsonText.{items_text, ends_text, anomaly_member, order_member, reader_members, finding_members}
 use Rattle.sgt_clients.specs.Levels.{answer_of, strongest_of}
 use Rattle.sgt_clients.specs.ReportText.{from_one, entry_of}
 use Rattle.sgt_clients.specs.TieText.{ground_text, partial_text}
@@ -46,8 +46,8 @@ answer_text No = codes "no"
 answer_text Undecided = codes "undecided"
 
 -- the beginning of the object of a level: whether it holds
-abbrev pub holds_text : List ℕ → Answer → List ℕ
-holds_text words answer = words ++ answer_text answer ++ codes "\""
+abbrev pub holds_text : Level → Answer → List ℕ
+holds_text level answer = level_code level ++ codes ":{\"holds\":\"" ++ answer_text answer ++ codes "\""
 
 -- the kind of the reason of a tie
 abbrev pub ground_word : Ground → List ℕ
@@ -116,33 +116,35 @@ abbrev pub untimed_members : Clients → Option Finding → List ℕ
 untimed_members c (Some f) = finding_members c f
 untimed_members c None = []
 
--- the objects of the levels
-abbrev pub writes_object : Clients → LevelFindings → List ℕ
-writes_object c f = holds_text (codes "\"read-uncommitted\":{\"holds\":\"") (answer_of f ReadUncommitted) ++ writes_members c f.weaker ++ codes "}"
+-- the evidence of a level, unless it stands before or follows from that of another one
+abbrev pub level_members : Clients → LevelFindings → Level → List ℕ
+level_members c f ReadUncommitted = writes_members c f.weaker
+level_members c f ReadCommitted = committed_members c f.weaker
+level_members c f SnapshotIsolation = snapshot_members c f.weaker
+level_members c f Serializable = untimed_members c f.untimed
+level_members c f StrictSerializable = []
 
-abbrev pub committed_object : Clients → LevelFindings → List ℕ
-committed_object c f = holds_text (codes ",\"read-committed\":{\"holds\":\"") (answer_of f ReadCommitted) ++ committed_members c f.weaker ++ codes "}"
+-- the object of a level
+abbrev pub level_object : Clients → LevelFindings → Level → List ℕ
+level_object c f level = holds_text level (answer_of f level) ++ level_members c f level ++ codes "}"
 
-abbrev pub snapshot_object : Clients → LevelFindings → List ℕ
-snapshot_object c f = holds_text (codes ",\"snapshot-isolation\":{\"holds\":\"") (answer_of f SnapshotIsolation) ++ snapshot_members c f.weaker ++ codes "}"
+-- the same after a comma
+abbrev pub next_object : Clients → LevelFindings → Level → List ℕ
+next_object c f level = codes "," ++ level_object c f level
 
-abbrev pub serial_object : Clients → LevelFindings → List ℕ
-serial_object c f = holds_text (codes ",\"serializable\":{\"holds\":\"") (answer_of f Serializable) ++ untimed_members c f.untimed ++ codes "}"
+-- the object of strict serializability, if real time is kept
+abbrev pub strict_object : Bool → Clients → LevelFindings → List ℕ
+strict_object strict c f = if strict then next_object c f StrictSerializable else []
 
-abbrev pub strict_object : Bool → LevelFindings → List ℕ
-strict_object strict f =
-    if strict then holds_text (codes ",\"strict-serializable\":{\"holds\":\"") (answer_of f StrictSerializable) ++ codes "}" else []
-
+-- the objects of the levels, from the weakest on
 abbrev pub level_objects : Bool → Clients → LevelFindings → List ℕ
-level_objects strict c f = writes_object c f ++ committed_object c f ++ snapshot_object c f ++ serial_object c f ++ strict_object strict f
+level_objects strict c f = level_object c f ReadUncommitted ++ next_object c f ReadCommitted ++ next_object c f SnapshotIsolation
+    ++ next_object c f Serializable ++ strict_object strict c f
 
--- the members on the strongest level, and on each level
+-- the member on the strongest level, and the beginning of that on each level
 abbrev pub strongest_member : Option Level → List ℕ
 strongest_member level = codes ",\"strongest\":" ++ strongest_code level ++ codes ",\"levels\":{"
 
+-- the members on the strongest level, and on each level
 abbrev pub levels_members : Bool → Clients → LevelFindings → List ℕ
 levels_members strict c f = strongest_member (strongest_of strict f) ++ level_objects strict c f ++ codes "}"
-
--- the object, and the end of its line
-abbrev pub json_text : Bool → Clients → LevelFindings → List ℕ
-json_text strict c f = head_text strict c f.finding ++ levels_members strict c f ++ codes "}\n"

@@ -103,16 +103,20 @@ unserial_text c (finding.Cycle steps name) = not_text (codes "not serializable: 
 unserial_text c (finding.Fault reader read fault name) = not_text (codes "not serializable: ") name.now ++ fault_line c reader read fault
 
 -- what breaks serializability, if there is a finding of its own on that
-abbrev pub untimed_text : Clients → Option Finding → List ℕ
-untimed_text c (Some f) = unserial_text c f
-untimed_text c None = []
+abbrev pub other_text : Clients → Option Finding → List ℕ
+other_text c (Some f) = unserial_text c f
+other_text c None = []
+
+-- the same, unless the lines before say it
+abbrev pub untimed_text : Clients → LevelFindings → List ℕ
+untimed_text c f = if f.serial_above then above_text (codes "not serializable: ") else other_text c f.untimed
 
 -- what breaks the level after the strongest one, unless the lines before say it
 abbrev pub next_text : Clients → LevelFindings → Option Level → List ℕ
 next_text c f None = writes_text c f.weaker
 next_text c f (Some ReadUncommitted) = committed_text c f.weaker
 next_text c f (Some ReadCommitted) = snapshot_text c f.weaker
-next_text c f (Some SnapshotIsolation) = untimed_text c f.untimed
+next_text c f (Some SnapshotIsolation) = untimed_text c f
 next_text c f (Some Serializable) = []
 next_text c f (Some StrictSerializable) = []
 

@@ -1,3 +1,4 @@
+pub mod AnomalyText
 pub mod Checks
 pub mod Entries
 pub mod Evidence
@@ -11,6 +12,7 @@ pub mod LevelJson
 pub mod LevelText
 pub mod Levels
 pub mod Objects
+pub mod OrderText
 pub mod Pieces
 pub mod Reading
 pub mod ReportText
@@ -18,3 +20,4 @@ pub mod Reports
 pub mod TieText
 pub mod Times
 pub mod UnseenText
+pub mod Values

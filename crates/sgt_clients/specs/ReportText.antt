@@ -20,6 +20,7 @@ use Rattle.sgt_clients.specs.declared.finding.Why.TheVariants.{Observed, RealTim
 use Rattle.sgt_clients.specs.declared.finding.Step.{Step}
 use Rattle.sgt_clients.specs.declared.finding.Finding.{Finding}
 use Rattle.sgt_clients.specs.declared.finding.Finding.TheVariants as finding
+use Rattle.sgt_clients.specs.Values.{value_text}
 
 -- an index, counted from 1; at most 2^64 - 1
 abbrev pub from_one : ℕ → ℕ
@@ -47,12 +48,12 @@ key_text c k = option_map_or (λ text. text.items) (slice_get c.keys.items k) []
 
 -- a value after a space
 abbrev pub next_value : ℕ → List ℕ
-next_value v = codes " " ++ decimal v
+next_value v = codes " " ++ value_text v
 
 -- values separated by spaces
 abbrev pub spaced : List ℕ → List ℕ
 spaced [] = []
-spaced (v ∷ vs) = decimal v ++ flat_map next_value vs
+spaced (v ∷ vs) = value_text v ++ flat_map next_value vs
 
 -- whether the value is spoken of
 abbrev pub is_spoken : Spoken → ℕ → Bool
@@ -109,11 +110,11 @@ with_values words one other = with_value (λ v. with_value (words v) other) one
 
 -- a value that was seen, or missed, and who appended it
 abbrev pub of_appender : List ℕ → ℕ → ℕ → List ℕ
-of_appender with t v = with ++ decimal v ++ codes ", which " ++ transaction_text t ++ codes " appended"
+of_appender with t v = with ++ value_text v ++ codes ", which " ++ transaction_text t ++ codes " appended"
 
 -- two values that were seen in this order, and who appended them
 abbrev pub in_order_text : ℕ → ℕ → ℕ → ℕ → List ℕ
-in_order_text t u v w = codes ", with " ++ decimal v ++ codes " of " ++ transaction_text t ++ codes " before " ++ decimal w
+in_order_text t u v w = codes ", with " ++ value_text v ++ codes " of " ++ transaction_text t ++ codes " before " ++ value_text w
     ++ codes " of " ++ transaction_text u
 
 -- what was observed that puts transaction t before u
@@ -137,22 +138,22 @@ step_text c s = codes "  " ++ placed c s.from ++ codes " before " ++ placed c s.
 
 -- a value of its own that a transaction saw too early
 abbrev pub ahead_text : ℕ → ℕ → List ℕ
-ahead_text t v = codes ", with " ++ decimal v ++ codes ", which " ++ transaction_text t ++ codes " appended only later"
+ahead_text t v = codes ", with " ++ value_text v ++ codes ", which " ++ transaction_text t ++ codes " appended only later"
 
 -- two values in another order than their transaction appended them
 abbrev pub swapped_text : Clients → ℕ → ℕ → ℕ → List ℕ
-swapped_text c t v w = codes ", with " ++ decimal w ++ codes " before " ++ decimal v ++ codes ", but " ++ placed c t ++ codes " appended "
-    ++ decimal v ++ codes " first"
+swapped_text c t v w = codes ", with " ++ value_text w ++ codes " before " ++ value_text v ++ codes ", but " ++ placed c t ++ codes " appended "
+    ++ value_text v ++ codes " first"
 
 -- a value of an aborted transaction
 abbrev pub aborted_text : Clients → ℕ → ℕ → List ℕ
-aborted_text c t v = codes ", with " ++ decimal v ++ codes " of " ++ placed c t ++ codes ", which aborted"
+aborted_text c t v = codes ", with " ++ value_text v ++ codes " of " ++ placed c t ++ codes ", which aborted"
 
 -- what is wrong with a read
 abbrev pub wrong_text : Clients → ℕ → Fault → List ℕ
-wrong_text c reader (fault.Unwritten value) = codes ", but no transaction that may have committed appends " ++ decimal value
+wrong_text c reader (fault.Unwritten value) = codes ", but no transaction that may have committed appends " ++ value_text value
 wrong_text c reader (fault.Aborted by append) = with_value (aborted_text c by) (operation_at c by append)
-wrong_text c reader (fault.Twice value) = codes ", with a value twice: " ++ decimal value
+wrong_text c reader (fault.Twice value) = codes ", with a value twice: " ++ value_text value
 wrong_text c reader fault.EndsOtherwise = codes ", which does not end with what " ++ transaction_text reader ++ codes " had appended"
 wrong_text c reader (fault.Ahead append) = with_value (ahead_text reader) (operation_at c reader append)
 wrong_text c reader (fault.Swapped by first second) = with_values (swapped_text c by) (operation_at c by first) (operation_at c by second)

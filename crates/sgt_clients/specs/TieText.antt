@@ -1,6 +1,5 @@
 -- The words of a tie, and of a partial read.
 use Rattle.std.specs.Prelude.{◌++◌, ℕ, List, [], Option, Some, None, codes}
-use Rattle.std.specs.Fmt.{decimal}
 use Rattle.sgt_appends.specs.declared.witness.Reason.TheVariants as reason
 use Rattle.sgt_levels.specs.declared.tie.Ground.{Ground}
 use Rattle.sgt_levels.specs.declared.tie.Ground.TheVariants.{Seen, InOrder, Late, Wait, Missed}
@@ -10,10 +9,11 @@ use Rattle.sgt_clients.specs.declared.clients.Clients.{Clients}
 use Rattle.sgt_clients.specs.declared.evidence.Put.{Put}
 use Rattle.sgt_clients.specs.Evidence.{put_of}
 use Rattle.sgt_clients.specs.ReportText.{transaction_text, placed, key_text, operation_at, value_of, of_one, read_text, with_values, reason_text}
+use Rattle.sgt_clients.specs.Values.{value_text}
 
 -- a value that was seen, and one that was not, and who appended them
 abbrev pub late_text : ℕ → ℕ → ℕ → ℕ → List ℕ
-late_text t u v w = codes ", with " ++ decimal v ++ codes " of " ++ transaction_text t ++ codes " and without " ++ decimal w
+late_text t u v w = codes ", with " ++ value_text v ++ codes " of " ++ transaction_text t ++ codes " and without " ++ value_text w
     ++ codes " of " ++ transaction_text u
 
 -- the key to which both append
@@ -43,7 +43,7 @@ tie_text c tie = codes "  " ++ placed c tie.from ++ codes " before " ++ placed c
 
 -- a value that was seen, and one of the same transaction that was not
 abbrev pub partial_words : Clients → ℕ → ℕ → ℕ → List ℕ
-partial_words c by v w = codes ", with " ++ decimal v ++ codes " and without " ++ decimal w ++ codes ", both of " ++ placed c by
+partial_words c by v w = codes ", with " ++ value_text v ++ codes " and without " ++ value_text w ++ codes ", both of " ++ placed c by
 
 -- a partial read
 abbrev pub partial_text : Clients → Partial → List ℕ

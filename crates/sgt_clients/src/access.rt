@@ -8,7 +8,7 @@ use sgt_appends::Operation;
 #[derive(Clone, Copy, Debug, PartialEq, Eq)]
 pub(crate) enum Access {
     /// It appends the value to the key.
-    Appends { key: u32, value: u32 },
+    Appends { key: u32, value: u64 },
     /// It reads the key.
     Reads { key: u32 },
 }

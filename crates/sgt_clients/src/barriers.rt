@@ -11,7 +11,7 @@ use sgt_model::NoMemory;
 use std::alloc::Global;
 
 /// The value that is appended to the keys that clients do not know.
-const MARK: u32 = 0;
+const MARK: u64 = 0;
 
 /// The transactions with the appends to their own keys, and the barriers after them.
 pub(crate) fn with_barriers(

@@ -48,6 +48,8 @@ pub struct Clients {
     pub transactions: Vec<Transaction>,
     /// When each ran.
     pub spans: Vec<Span>,
+    /// The number of the process of each. No contract speaks of it.
+    pub processes: Vec<u32>,
     /// The beginnings and known ends, in their order.
     pub events: Vec<Event>,
     /// Whether an entry is an invocation.
@@ -79,6 +81,7 @@ pub fn read_clients(alloc: Global, text: &[u8]) -> Result<Clients, ClientsFault>
     Ok(Clients {
         transactions: reader.transactions,
         spans: reader.spans,
+        processes: reader.owners,
         events: reader.events,
         invoked: reader.invoked,
         skipped: reader.skipped,
@@ -101,6 +104,8 @@ struct Invocation {
 struct ClientsReader {
     transactions: Vec<Transaction>,
     spans: Vec<Span>,
+    /// The process of each transaction.
+    owners: Vec<u32>,
     events: Vec<Event>,
     keys: Items,
     processes: Items,
@@ -131,6 +136,7 @@ impl ClientsReader {
         ClientsReader {
             transactions: Vec::new(alloc),
             spans: Vec::new(alloc),
+            owners: Vec::new(alloc),
             events: Vec::new(alloc),
             keys: Items::new(alloc),
             processes: Items::new(alloc),
@@ -268,6 +274,7 @@ impl ClientsReader {
         if self.active.contains_key(&process) {
             return Err(ReadError::Invoked(process));
         }
+        self.note_owner(process)?;
         self.add(Status::Unknown, entry.operations)?;
         self.note_active(
             process,
@@ -276,6 +283,16 @@ impl ClientsReader {
                 accesses: entry.accesses,
             },
         )?;
+        Ok(())
+    }
+
+    /// Notes the process of the next transaction.
+    fn note_owner(&mut self, process: u32) -> Result<(), NoMemory>
+        ensures same { IsSame self.old self.new }
+        ensures active { self.new.active ≡ self.old.active }
+        ensures stored { OnOk result ((p : Past) → Stores self.old p → Stores self.new p) }
+    {
+        self.owners.push(process)?;
         Ok(())
     }
 
@@ -331,6 +348,7 @@ impl ClientsReader {
         ensures stored { OnOk result ((p : Past) → Stores self.old p → Stores self.new (ended status (length p.transactions) (begun status entry.operations p))) }
     {
         let number = self.transactions.len();
+        self.note_owner(entry.process)?;
         self.add(status, entry.operations)?;
         self.note_end(number, status)
     }

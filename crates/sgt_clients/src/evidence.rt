@@ -12,26 +12,26 @@ use sgt_appends::Operation;
 #[derive(Clone, Copy)]
 pub(crate) struct Put {
     pub key: u32,
-    pub value: u32,
+    pub value: u64,
 }
 
 /// A read: its key, and the values that it saw.
 #[derive(Clone, Copy)]
 pub(crate) struct Seen<'a> {
     pub key: u32,
-    pub values: &'a [u32],
+    pub values: &'a [u64],
 }
 
 /// Up to two values that a text speaks of.
 #[derive(Clone, Copy, Debug, PartialEq, Eq)]
 pub(crate) struct Spoken {
-    pub one: Option<u32>,
-    pub other: Option<u32>,
+    pub one: Option<u64>,
+    pub other: Option<u64>,
 }
 
 impl Spoken {
     /// This value, or none.
-    pub fn of_one(value: Option<u32>) -> Self
+    pub fn of_one(value: Option<u64>) -> Self
         ensures { result ≡ of_one value }
     {
         Spoken {
@@ -41,7 +41,7 @@ impl Spoken {
     }
 
     /// These values.
-    pub fn of_two(value: Option<u32>, next: Option<u32>) -> Self
+    pub fn of_two(value: Option<u64>, next: Option<u64>) -> Self
         ensures { result ≡ of_two value next }
     {
         Spoken {
@@ -51,7 +51,7 @@ impl Spoken {
     }
 
     /// Whether the value is one of them.
-    pub fn has(self, value: u32) -> bool
+    pub fn has(self, value: u64) -> bool
         ensures { result ≡ is_spoken self value }
     {
         is_value(self.one, value) || is_value(self.other, value)
@@ -59,7 +59,7 @@ impl Spoken {
 }
 
 /// Whether it is this value.
-fn is_value(one: Option<u32>, value: u32) -> bool
+fn is_value(one: Option<u64>, value: u64) -> bool
     ensures { result ≡ option_map_or (λ w. w == value) one false }
 {
     match one {
@@ -93,7 +93,7 @@ pub(crate) fn put_at(clients: &Clients, transaction: usize, place: usize) -> Opt
 }
 
 /// The value of the append at the position of the transaction.
-pub(crate) fn value_at(clients: &Clients, transaction: usize, place: usize) -> Option<u32>
+pub(crate) fn value_at(clients: &Clients, transaction: usize, place: usize) -> Option<u64>
     ensures { result ≡ value_of (operation_at clients.now transaction place) }
 {
     match operation_at(clients, transaction, place)? {

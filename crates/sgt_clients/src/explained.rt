@@ -9,7 +9,6 @@ use crate::hint::Hint;
 use crate::pieces::{Place, next_object, object_end};
 use serde_json::Value;
 use sgt_edn::{edn_index, is_edn, json_of_edn};
-use sgt_format::items;
 use sgt_model::NoMemory;
 use std::alloc::Global;
 
@@ -273,9 +272,7 @@ fn bytes_hint(before: &[u8], after: &[u8], is_first: bool) -> Option<Hint> {
 fn flaw_hint(alloc: Global, input: &[u8], entry: usize, flaw: &Flaw) -> Option<Hint> {
     match flaw {
         Flaw::Invoked(..) => Some(Hint::Restart),
-        Flaw::Process | Flaw::Type | Flaw::Value | Flaw::Key(_) => {
-            tree_hint(alloc, input, entry, flaw)
-        }
+        Flaw::Process | Flaw::Type | Flaw::Value => { tree_hint(alloc, input, entry, flaw) }
         _ => None,
     }
 }
@@ -296,39 +293,12 @@ fn tree_hint(alloc: Global, input: &[u8], entry: usize, flaw: &Flaw) -> Option<H
 fn member_hint(tree: &Value, flaw: &Flaw) -> Option<Hint> {
     match flaw {
         Flaw::Process => match tree.get("process") {
-            Some(name) if is_negative(name) => Some(Hint::NegativeProcess),
             Some(_) => None,
             None if tree.get("limits").is_some() => Some(Hint::Script),
             None => Some(Hint::Missing("process")),
         },
         Flaw::Type if tree.get("type").is_none() => Some(Hint::Missing("type")),
         Flaw::Value if tree.get("value").is_none() => Some(Hint::Missing("value")),
-        Flaw::Key(number) if has_negative_key(tree, *number) => Some(Hint::NegativeKey),
         _ => None,
-    }
-}
-
-/// Whether the key of the operation of this number, from 1, is a negative number.
-fn has_negative_key(tree: &Value, number: usize) -> bool {
-    let Some(value) = tree.get("value") else {
-        return false;
-    };
-    let Some(operations) = items(value) else {
-        return false;
-    };
-    let Some(operation) = operations.get(number.saturating_sub(1)) else {
-        return false;
-    };
-    match items(operation) {
-        Some([_, key, _]) => is_negative(key),
-        _ => false,
-    }
-}
-
-/// Whether the tree is a negative whole number.
-fn is_negative(tree: &Value) -> bool {
-    match tree.as_i64() {
-        Some(number) => number < 0,
-        None => false,
     }
 }

@@ -28,7 +28,7 @@ pub enum Flaw {
     Operation(usize),
     #[error("the key of operation {0} is not a whole number, or a text of 1 to 64 letters, digits and _ . / : -")]
     Key(usize),
-    #[error("operation {0} has a value that is not a whole number from 0 to 4294967295")]
+    #[error("operation {0} has a value that is not a whole number of at most 15 digits")]
     Number(usize),
     /// The other invocation is on this line, and has this number among the entries.
     #[error("process {0} has invoked another transaction, line {1}, entry {2}, and has not ended it")]
@@ -87,7 +87,7 @@ pub enum ClientsFault {
     Hinted(u64, usize, Flaw, Hint),
     /// The transaction that ended or began here appends the value to the key, after the one that ended or began there.
     #[error("{0} appends {1} to key {2} a second time, after {3}")]
-    Twice(Position, u32, Shown, Position),
+    Twice(Position, i64, Shown, Position),
     /// There is no transaction to judge.
     #[error("no operations")]
     NoOperations,

@@ -31,10 +31,6 @@ pub enum Hint {
     Discard,
     #[error("{0} is missing")]
     Missing(&'static str),
-    #[error("a process is a number from 0 or a text: \"-1\" is one, -1 is not")]
-    NegativeProcess,
-    #[error("a key is a number from 0 or a text: \"-1\" is one, -1 is not")]
-    NegativeKey,
     #[error("a recorder that starts again takes new processes, or first writes an info for each that it left")]
     Restart,
 }

@@ -2,13 +2,15 @@
 
 ghost use Rattle.std.specs.Prelude.{◌≡◌, ◌++◌, flat_map, OnOk};
 ghost use Rattle.sgt_clients.specs.JsonText.{truth_text, next_item, items_text, counts_members, skipped_member, number_text, because_text, ends_text, step_object, anomaly_member, order_member, cycle_member, reader_members, finding_members, head_text};
-ghost use Rattle.sgt_clients.specs.LevelJson.{json_text};
+ghost use Rattle.sgt_clients.specs.Reports.{json_text};
 
+use crate::anomaly_text::append_anomalies_member;
 use crate::clients::Clients;
 use crate::counts::count;
 use crate::finding::{Finding, Step, Why, is_serial};
 use crate::level_findings::LevelFindings;
 use crate::level_json::append_levels;
+use crate::order_text::append_orders_members;
 use crate::piece::{Piece, append_pieces, entry_of};
 use crate::report_text::append_why;
 use crate::witness_text::append_fault;
@@ -31,6 +33,8 @@ pub fn append_json(
 {
     append_head(text, clients, &found.finding, strict)?;
     append_levels(text, clients, found, strict)?;
+    append_orders_members(text, clients, &found.orders)?;
+    append_anomalies_member(text, clients, found.anomalies.as_slice())?;
     text.extend_from_slice(b"}\n")?;
     Ok(())
 }
@@ -188,7 +192,11 @@ fn append_each_step(text: &mut Vec<u8>, clients: &Clients, steps: &[Step]) -> Re
 }
 
 /// Appends a step.
-fn append_step(text: &mut Vec<u8>, clients: &Clients, step: &Step) -> Result<(), NoMemory>
+pub(crate) fn append_step(
+    text: &mut Vec<u8>,
+    clients: &Clients,
+    step: &Step,
+) -> Result<(), NoMemory>
     ensures { OnOk result (text.new.items ≡ text.old.items ++ step_object clients.now step.now) }
 {
     append_ends(text, clients, step.from, step.to, because(&step.why))?;

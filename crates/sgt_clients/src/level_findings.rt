@@ -8,11 +8,15 @@ ghost use Rattle.sgt_clients.specs.Findings.{IsFound, is_order};
 ghost use Rattle.sgt_clients.specs.Levels.{serial_finding, serial_answer, writes_answer, committed_answer, snapshot_answer, answer_of, is_yes, first_level, strongest_of, AreFound};
 ghost use Rattle.sgt_clients.specs.declared.level.Answer.TheVariants.{Yes};
 
+use crate::anomalies::{Seen, anomalies_of};
 use crate::clients::Clients;
 use crate::fault::ClientsFault;
 use crate::finding::{Finding, check_clients, is_serial};
 use crate::level::{Answer, Level, is_yes};
-use crate::names::{breaks_committed, breaks_snapshot, committed_name, snapshot_name, writes_name};
+use crate::names::{
+    breaks_committed, breaks_serial, breaks_snapshot, committed_name, snapshot_name, writes_name,
+};
+use crate::orders::{KeptOrders, kept_orders};
 use crate::strict::check_strictly;
 use sgt_appends::Transaction;
 use sgt_levels::{Committed, Levels, Snapshot, Unseen, Writes, levels_of, unseen_appends};
@@ -41,8 +45,14 @@ pub struct LevelFindings {
     pub finding: Finding,
     /// Of serializable, if real time is kept and `finding` is no order.
     pub untimed: Option<Finding>,
+    /// Whether `finding` breaks serializable as well, and by no more steps than `untimed`.
+    pub serial_above: bool,
     /// Of the weaker levels. They hold if there is none.
     pub weaker: Option<Weaker>,
+    /// Of the orders that a snapshot run keeps, if real time is kept.
+    pub orders: Option<KeptOrders>,
+    /// The anomalies that are counted, if there is no serial order.
+    pub anomalies: Vec<Seen>,
 }
 
 impl LevelFindings {
@@ -212,11 +222,50 @@ pub fn check_levels(
     let untimed = untimed_of(alloc, clients, &finding, strict)?;
     let ordered = has_order(&finding, &untimed);
     let weaker = weaker_of(alloc, clients, ordered, &finding)?;
+    let anomalies = anomalies_seen(alloc, clients, &finding, &weaker)?;
+    let orders = orders_of(alloc, clients, strict, &finding, &weaker)?;
+    let serial_above = breaks_serial(&finding, &untimed);
     Ok(LevelFindings {
         finding,
+        serial_above,
         untimed,
         weaker,
+        orders,
+        anomalies,
     })
+}
+
+/// Which orders a snapshot run keeps, if real time is kept.
+fn orders_of(
+    alloc: Global,
+    clients: &Clients,
+    strict: bool,
+    finding: &Finding,
+    weaker: &Option<Weaker>,
+) -> Result<Option<KeptOrders>, NoMemory> {
+    if !strict {
+        return Ok(None);
+    }
+    Ok(Some(kept_orders(alloc, clients, finding, weaker)?))
+}
+
+/// The anomalies that are counted, unless there is a serial order. If the finding is a cycle, no read has a fault.
+fn anomalies_seen(
+    alloc: Global,
+    clients: &Clients,
+    finding: &Finding,
+    weaker: &Option<Weaker>,
+) -> Result<Vec<Seen>, NoMemory> {
+    let Some(weaker) = weaker else {
+        return Ok(Vec::new(alloc));
+    };
+    anomalies_of(
+        alloc,
+        clients.transactions.as_slice(),
+        clients.keys.len(),
+        matches!(finding, Finding::Cycle(..)),
+        &weaker.levels.committed,
+    )
 }
 
 /// Checks what clients saw, strictly or not.
@@ -271,7 +320,7 @@ fn weaker_of(
         return Ok(None);
     }
     let history = clients.transactions.as_slice();
-    let levels = levels_of(alloc, history, &[])?;
+    let levels = levels_of(alloc, history, matches!(finding, Finding::Cycle(..)))?;
     Ok(Some(Weaker {
         writes_name: writes_name(&levels.writes),
         committed_name: committed_name(&levels.committed),

@@ -5,7 +5,7 @@ ghost use Rattle.std.specs.Fmt.{decimal};
 ghost use Rattle.sgt_clients.specs.JsonText.{next_item, items_text, order_member};
 ghost use Rattle.sgt_clients.specs.Levels.{strongest_of};
 ghost use Rattle.sgt_clients.specs.TieText.{partial_text};
-ghost use Rattle.sgt_clients.specs.LevelJson.{level_code, strongest_code, answer_text, holds_text, ground_word, tie_object, ties_member, partial_members, ordered_members, writes_members, writes_object, evidence_members, committed_members, starts_member, split_members, snapshot_members, untimed_members, committed_object, snapshot_object, serial_object, strict_object, level_objects, strongest_member, levels_members};
+ghost use Rattle.sgt_clients.specs.LevelJson.{level_code, strongest_code, answer_text, holds_text, ground_word, tie_object, ties_member, partial_members, ordered_members, writes_members, evidence_members, committed_members, starts_member, split_members, snapshot_members, untimed_members, strict_object, level_objects, strongest_member, levels_members, next_object, level_object, level_members};
 
 use crate::clients::Clients;
 use crate::finding::Finding;
@@ -76,21 +76,83 @@ fn append_objects(
 ) -> Result<(), NoMemory>
     ensures { OnOk result (text.new.items ≡ text.old.items ++ level_objects strict clients.now found.now) }
 {
-    append_writes_object(text, clients, found)?;
-    append_committed_object(text, clients, found)?;
-    append_snapshot_object(text, clients, found)?;
-    append_serial_object(text, clients, found)?;
-    append_strict_object(text, found, strict)
+    append_object(text, clients, found, Level::ReadUncommitted)?;
+    append_next_object(text, clients, found, Level::ReadCommitted)?;
+    append_next_object(text, clients, found, Level::SnapshotIsolation)?;
+    append_next_object(text, clients, found, Level::Serializable)?;
+    append_strict_object(text, clients, found, strict)
+}
+
+/// Appends the object of strict serializability, if real time is kept.
+fn append_strict_object(
+    text: &mut Vec<u8>,
+    clients: &Clients,
+    found: &LevelFindings,
+    strict: bool,
+) -> Result<(), NoMemory>
+    ensures { OnOk result (text.new.items ≡ text.old.items ++ strict_object strict clients.now found.now) }
+{
+    if strict {
+        append_next_object(text, clients, found, Level::StrictSerializable)?;
+    }
+    Ok(())
+}
+
+/// Appends the object of a level after a comma.
+fn append_next_object(
+    text: &mut Vec<u8>,
+    clients: &Clients,
+    found: &LevelFindings,
+    level: Level,
+) -> Result<(), NoMemory>
+    ensures { OnOk result (text.new.items ≡ text.old.items ++ next_object clients.now found.now level) }
+{
+    text.extend_from_slice(b",")?;
+    append_object(text, clients, found, level)
+}
+
+/// Appends the object of a level.
+fn append_object(
+    text: &mut Vec<u8>,
+    clients: &Clients,
+    found: &LevelFindings,
+    level: Level,
+) -> Result<(), NoMemory>
+    ensures { OnOk result (text.new.items ≡ text.old.items ++ level_object clients.now found.now level) }
+{
+    append_holds(text, level, found.answer(level))?;
+    append_members(text, clients, found, level)?;
+    text.extend_from_slice(b"}")?;
+    Ok(())
 }
 
 /// Appends the beginning of the object of a level: whether it holds.
-fn append_holds(text: &mut Vec<u8>, words: &[u8], answer: Answer) -> Result<(), NoMemory>
-    ensures { OnOk result (text.new.items ≡ text.old.items ++ holds_text words.now answer) }
+fn append_holds(text: &mut Vec<u8>, level: Level, answer: Answer) -> Result<(), NoMemory>
+    ensures { OnOk result (text.new.items ≡ text.old.items ++ holds_text level answer) }
 {
-    text.extend_from_slice(words)?;
+    text.extend_from_slice(level_code(level))?;
+    text.extend_from_slice(b":{\"holds\":\"")?;
     text.extend_from_slice(answer_text(answer))?;
     text.extend_from_slice(b"\"")?;
     Ok(())
+}
+
+/// Appends the evidence of a level, unless it stands before or follows from that of another one.
+fn append_members(
+    text: &mut Vec<u8>,
+    clients: &Clients,
+    found: &LevelFindings,
+    level: Level,
+) -> Result<(), NoMemory>
+    ensures { OnOk result (text.new.items ≡ text.old.items ++ level_members clients.now found.now level) }
+{
+    match level {
+        Level::ReadUncommitted => append_writes(text, clients, &found.weaker),
+        Level::ReadCommitted => append_committed(text, clients, &found.weaker),
+        Level::SnapshotIsolation => append_snapshot(text, clients, &found.weaker),
+        Level::Serializable => append_untimed(text, clients, &found.untimed),
+        Level::StrictSerializable => Ok(()),
+    }
 }
 
 /// The word of an answer.
@@ -102,21 +164,6 @@ fn answer_text(answer: Answer) -> &'static [u8]
         Answer::No => b"no",
         Answer::Undecided => b"undecided",
     }
-}
-
-/// Appends the object of read uncommitted.
-fn append_writes_object(
-    text: &mut Vec<u8>,
-    clients: &Clients,
-    found: &LevelFindings,
-) -> Result<(), NoMemory>
-    ensures { OnOk result (text.new.items ≡ text.old.items ++ writes_object clients.now found.now) }
-{
-    let answer = found.answer(Level::ReadUncommitted);
-    append_holds(text, b"\"read-uncommitted\":{\"holds\":\"", answer)?;
-    append_writes(text, clients, &found.weaker)?;
-    text.extend_from_slice(b"}")?;
-    Ok(())
 }
 
 /// Appends the evidence for read uncommitted, unless it follows from that for read committed.
@@ -151,21 +198,6 @@ fn append_ordered(
         }
         Writes::Open => Ok(()),
     }
-}
-
-/// Appends the object of read committed.
-fn append_committed_object(
-    text: &mut Vec<u8>,
-    clients: &Clients,
-    found: &LevelFindings,
-) -> Result<(), NoMemory>
-    ensures { OnOk result (text.new.items ≡ text.old.items ++ committed_object clients.now found.now) }
-{
-    let answer = found.answer(Level::ReadCommitted);
-    append_holds(text, b",\"read-committed\":{\"holds\":\"", answer)?;
-    append_committed(text, clients, &found.weaker)?;
-    text.extend_from_slice(b"}")?;
-    Ok(())
 }
 
 /// Appends the evidence for read committed, unless it follows from a serial order.
@@ -221,7 +253,7 @@ fn append_evidence(
 }
 
 /// Appends the members on a partial read.
-fn append_partial_members(
+pub(crate) fn append_partial_members(
     text: &mut Vec<u8>,
     clients: &Clients,
     partial: &Partial,
@@ -248,7 +280,11 @@ fn append_partial_why(
 }
 
 /// Appends the member with a cycle of ties.
-fn append_cycle(text: &mut Vec<u8>, clients: &Clients, ties: &[Tie]) -> Result<(), NoMemory>
+pub(crate) fn append_cycle(
+    text: &mut Vec<u8>,
+    clients: &Clients,
+    ties: &[Tie],
+) -> Result<(), NoMemory>
     ensures { OnOk result (text.new.items ≡ text.old.items ++ ties_member clients.now ties.now) }
 {
     text.extend_from_slice(b",\"cycle\":[")?;
@@ -280,7 +316,7 @@ fn append_each_tie(text: &mut Vec<u8>, clients: &Clients, ties: &[Tie]) -> Resul
 }
 
 /// Appends a tie.
-fn append_tie(text: &mut Vec<u8>, clients: &Clients, tie: &Tie) -> Result<(), NoMemory>
+pub(crate) fn append_tie(text: &mut Vec<u8>, clients: &Clients, tie: &Tie) -> Result<(), NoMemory>
     ensures { OnOk result (text.new.items ≡ text.old.items ++ tie_object clients.now tie.now) }
 {
     append_ends(text, clients, tie.from, tie.to, ground_word(tie.ground))?;
@@ -300,21 +336,6 @@ fn ground_word(ground: Ground) -> &'static [u8]
         Ground::Wait { .. } => b"wait",
         Ground::Missed { .. } => b"missed",
     }
-}
-
-/// Appends the object of snapshot isolation.
-fn append_snapshot_object(
-    text: &mut Vec<u8>,
-    clients: &Clients,
-    found: &LevelFindings,
-) -> Result<(), NoMemory>
-    ensures { OnOk result (text.new.items ≡ text.old.items ++ snapshot_object clients.now found.now) }
-{
-    let answer = found.answer(Level::SnapshotIsolation);
-    append_holds(text, b",\"snapshot-isolation\":{\"holds\":\"", answer)?;
-    append_snapshot(text, clients, &found.weaker)?;
-    text.extend_from_slice(b"}")?;
-    Ok(())
 }
 
 /// Appends the evidence for snapshot isolation, unless it follows from a serial order.
@@ -359,7 +380,7 @@ fn append_split(
 }
 
 /// Appends the order of commits, and the starts.
-fn append_run(text: &mut Vec<u8>, run: &Snapshots) -> Result<(), NoMemory>
+pub(crate) fn append_run(text: &mut Vec<u8>, run: &Snapshots) -> Result<(), NoMemory>
     ensures { OnOk result (text.new.items ≡ text.old.items ++ (order_member run.now.order.items ++ starts_member run.now.starts.items)) }
 {
     append_order(text, run.order.as_slice())?;
@@ -397,21 +418,6 @@ fn append_each_count(text: &mut Vec<u8>, counts: &[usize]) -> Result<(), NoMemor
     Ok(())
 }
 
-/// Appends the object of serializability. Its evidence stands before, unless that keeps real time.
-fn append_serial_object(
-    text: &mut Vec<u8>,
-    clients: &Clients,
-    found: &LevelFindings,
-) -> Result<(), NoMemory>
-    ensures { OnOk result (text.new.items ≡ text.old.items ++ serial_object clients.now found.now) }
-{
-    let answer = found.answer(Level::Serializable);
-    append_holds(text, b",\"serializable\":{\"holds\":\"", answer)?;
-    append_untimed(text, clients, &found.untimed)?;
-    text.extend_from_slice(b"}")?;
-    Ok(())
-}
-
 /// Appends the evidence on serializability, if there is a finding of its own on that.
 fn append_untimed(
     text: &mut Vec<u8>,
@@ -424,20 +430,4 @@ fn append_untimed(
         Some(finding) => append_finding(text, clients, finding),
         None => Ok(()),
     }
-}
-
-/// Appends the object of strict serializability, if real time is kept.
-fn append_strict_object(
-    text: &mut Vec<u8>,
-    found: &LevelFindings,
-    strict: bool,
-) -> Result<(), NoMemory>
-    ensures { OnOk result (text.new.items ≡ text.old.items ++ strict_object strict found.now) }
-{
-    if strict {
-        let answer = found.answer(Level::StrictSerializable);
-        append_holds(text, b",\"strict-serializable\":{\"holds\":\"", answer)?;
-        text.extend_from_slice(b"}")?;
-    }
-    Ok(())
 }

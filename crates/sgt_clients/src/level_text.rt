@@ -78,7 +78,7 @@ fn append_next(
         None => append_writes(text, clients, &found.weaker),
         Some(Level::ReadUncommitted) => append_committed(text, clients, &found.weaker),
         Some(Level::ReadCommitted) => append_snapshot(text, clients, &found.weaker),
-        Some(Level::SnapshotIsolation) => append_untimed(text, clients, &found.untimed),
+        Some(Level::SnapshotIsolation) => append_untimed(text, clients, found),
         Some(Level::Serializable) => Ok(()),
         Some(Level::StrictSerializable) => Ok(()),
     }
@@ -95,7 +95,7 @@ fn append_not(text: &mut Vec<u8>, words: &[u8], name: &str) -> Result<(), NoMemo
 }
 
 /// Appends the line of a read, and what is wrong with it.
-fn append_fault_line(
+pub(crate) fn append_fault_line(
     text: &mut Vec<u8>,
     clients: &Clients,
     reader: usize,
@@ -182,7 +182,7 @@ fn append_committed(
 }
 
 /// Appends that what stands above breaks a level as well.
-fn append_above(text: &mut Vec<u8>, words: &[u8]) -> Result<(), NoMemory>
+pub(crate) fn append_above(text: &mut Vec<u8>, words: &[u8]) -> Result<(), NoMemory>
     ensures { OnOk result (text.new.items ≡ text.old.items ++ above_text words.now) }
 {
     text.extend_from_slice(words)?;
@@ -313,11 +313,14 @@ fn append_open(
 fn append_untimed(
     text: &mut Vec<u8>,
     clients: &Clients,
-    untimed: &Option<Finding>,
+    found: &LevelFindings,
 ) -> Result<(), NoMemory>
-    ensures { OnOk result (text.new.items ≡ text.old.items ++ untimed_text clients.now untimed.now) }
+    ensures { OnOk result (text.new.items ≡ text.old.items ++ untimed_text clients.now found.now) }
 {
-    match untimed {
+    if found.serial_above {
+        return append_above(text, b"not serializable: ");
+    }
+    match &found.untimed {
         Some(finding) => append_unserial(text, clients, finding),
         None => Ok(()),
     }

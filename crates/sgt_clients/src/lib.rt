@@ -13,8 +13,8 @@
 //! - the answer, strict or not (`specs/Findings.antt`), and that for each level (`specs/Levels.antt`)
 //! - the texts of the report, the object of JSON and the graph (`specs/Reports.antt`, `LevelJson.antt`, `GraphText.antt`)
 //!
-//! Tested: the picture; that only a wrong input is refused, and why; that each line of a *no*
-//! holds; the names of anomalies.
+//! Tested: the picture; that only a wrong input is refused, and why; that each line of a *no* holds; the names of
+//! anomalies, and how often each is counted.
 //!
 //! ```
 //! let clients = read_clients(alloc, text)?;
@@ -23,9 +23,12 @@
 #![tactic(auto)]
 
 mod access;
+mod anomalies;
+mod anomaly_text;
 mod barriers;
 mod breaks;
 mod clients;
+mod counted_reads;
 mod counts;
 mod entry;
 mod evidence;
@@ -39,8 +42,11 @@ mod level;
 mod level_findings;
 mod level_json;
 mod level_text;
+mod lost_updates;
 mod names;
 mod operations;
+mod order_text;
+mod orders;
 mod picture;
 mod piece;
 mod pieces;
@@ -55,6 +61,7 @@ mod twice;
 mod unseen_text;
 mod witness_text;
 
+pub use anomalies::{Example, Seen};
 pub use clients::{Clients, Event, Span, read_clients};
 pub use fault::{ClientsFault, Flaw, Position};
 pub use finding::{Finding, Step, Why, check_clients};
@@ -63,6 +70,7 @@ pub use hint::Hint;
 pub use json_text::append_json;
 pub use level::{Answer, Level, Question};
 pub use level_findings::{LevelFindings, Weaker, check_levels};
+pub use orders::{Kept, KeptOrders};
 pub use picture::append_timeline;
 pub use report_text::append_report;
 pub use run::{ClientsOutput, run_clients};

@@ -1,6 +1,7 @@
 //! The names of anomalies, as Adya (1999) and Elle (2020) spell them.
 
 use crate::finding::{Finding, Step, Why};
+use crate::orders::Kept;
 use sgt_appends::{Anomaly, Reason, Transaction, Witness, append_at, name_of};
 use sgt_levels::{Committed, Ground, Snapshot, Tie, Writes};
 
@@ -126,6 +127,26 @@ pub(crate) fn breaks_snapshot(
                 && !is_lost_update(history, ties.as_slice())
                 && !misses_in_a_row(steps.as_slice())
                 && !has_times(steps.as_slice())
+        }
+        _ => false,
+    }
+}
+
+/// Whether the finding with real time shows that the answer for serializable is no, by no more steps than the one without.
+pub(crate) fn breaks_serial(finding: &Finding, untimed: &Option<Finding>) -> bool {
+    match (finding, untimed) {
+        (Finding::Cycle(steps, _), Some(Finding::Cycle(others, _))) => {
+            steps.len() <= others.len() && !has_times(steps.as_slice())
+        }
+        _ => false,
+    }
+}
+
+/// Whether the finding shows that no snapshot run keeps real time, by no more steps than the answer has.
+pub(crate) fn breaks_strong(finding: &Finding, strong: &Kept) -> bool {
+    match (finding, strong) {
+        (Finding::Cycle(steps, _), Kept::Cycle(passages)) => {
+            steps.len() <= passages.len() && !misses_in_a_row(steps.as_slice())
         }
         _ => false,
     }

@@ -1,16 +1,15 @@
 //! The operations of an entry.
 ghost use Rattle.std.specs.Prelude.{◌≡◌, ◌<◌, ◌+◌, ◌^◌, ◌++◌, ℕ, List, Some, map, length, option_map, slice_get, IfOk, IfSome, OnOk, [], ◌∷◌, codes};
-ghost use Rattle.std.specs.Fmt.{decimal};
 ghost use Rattle.serde_json.specs.View.{view};
 ghost use Rattle.sgt_notation.specs.Numbering.{KnowsItems, texts_of};
-ghost use Rattle.sgt_clients.specs.Entries.{Names, value_tree, SpellsValues, SpellsOperation, counted, SpellAll, SpellsAs};
+ghost use Rattle.sgt_clients.specs.Entries.{name_text, Names, whole_in, some_whole, SpellEachValue, SpellsValues, SpellsOperation, counted, SpellAll, SpellsAs};
 
 use crate::access::{Access, access_of};
 use crate::fault::{Flaw, ReadError};
 use serde_json::Value;
 use sgt_appends::Operation;
 use sgt_format::{append_number, items};
-use sgt_model::NoMemory;
+use sgt_model::{NoMemory, is_value};
 use sgt_notation::Items;
 use std::alloc::Global;
 
@@ -140,7 +139,7 @@ fn read_read(
 }
 
 /// Reads what a read saw: a list of values, or `null` for the empty list.
-fn read_seen(alloc: Global, place: usize, argument: &Value) -> Result<Vec<u32>, ReadError>
+fn read_seen(alloc: Global, place: usize, argument: &Value) -> Result<Vec<u64>, ReadError>
     ensures { IfOk result (λ values. SpellsValues (view argument.now) values.items) }
 {
     if let Value::Null = argument {
@@ -153,8 +152,8 @@ fn read_seen(alloc: Global, place: usize, argument: &Value) -> Result<Vec<u32>, 
 }
 
 /// Reads the values of a list.
-fn read_values(alloc: Global, place: usize, items: &[Value]) -> Result<Vec<u32>, ReadError>
-    ensures { IfOk result (λ values. map view items.now ≡ map value_tree values.items) }
+fn read_values(alloc: Global, place: usize, items: &[Value]) -> Result<Vec<u64>, ReadError>
+    ensures { IfOk result (λ values. SpellEachValue (map view items.now) values.items) }
 {
     let mut values = reserved(alloc, items.len())?;
     for item in items {
@@ -167,24 +166,29 @@ fn read_values(alloc: Global, place: usize, items: &[Value]) -> Result<Vec<u32>,
 }
 
 /// An empty list with this capacity.
-fn reserved(alloc: Global, len: usize) -> Result<Vec<u32>, NoMemory>
+fn reserved(alloc: Global, len: usize) -> Result<Vec<u64>, NoMemory>
     ensures { IfOk result (λ values. values.items ≡ []) }
 {
     Ok(Vec::with_capacity(alloc, len)?)
 }
 
 /// Appends the value.
-fn push(values: &mut Vec<u32>, value: u32) -> Result<(), NoMemory>
+fn push(values: &mut Vec<u64>, value: u64) -> Result<(), NoMemory>
     ensures { OnOk result (values.new.items ≡ values.old.items ++ value ∷ []) }
 {
     Ok(values.push(value)?)
 }
 
-/// The value of an append: a whole number from 0 to 4,294,967,295.
-fn number_of(tree: &Value) -> Option<u32>
-    ensures { IfSome result (λ value. view tree.now ≡ value_tree value) }
+/// The value that the tree spells, a whole number of at most 15 digits, as it is stored: by its bits.
+fn number_of(tree: &Value) -> Option<u64>
+    ensures { IfSome result (λ value. whole_in (view tree.now) ≡ some_whole value) }
 {
-    u32::try_from(tree.as_u64()?).ok()
+    let number = tree.as_i64()?;
+    if is_value(number) {
+        Some(number.cast_unsigned())
+    } else {
+        None
+    }
 }
 
 /// The number of the key with this text.
@@ -205,24 +209,45 @@ fn read_key(alloc: Global, keys: &mut Items, place: usize, tree: &Value) -> Resu
             }
             Ok(keys.number(alloc, text)?)
         }
-        _ => match tree.as_u64() {
-            Some(number) => Ok(number_name(alloc, keys, number)?),
+        _ => match whole_name(alloc, keys, tree)? {
+            Some(key) => Ok(key),
             None => Err(ReadError::Flaw(Flaw::Key(place.saturating_add(1)))),
         },
     }
 }
 
-/// The number of the key or process whose text is this number.
-pub(crate) fn number_name(alloc: Global, names: &mut Items, number: u64) -> Result<u32, NoMemory>
+/// The number of the key or process whose text is the whole number that the tree is, if it is one.
+pub(crate) fn whole_name(
+    alloc: Global,
+    names: &mut Items,
+    tree: &Value,
+) -> Result<Option<u32>, NoMemory>
     requires known { KnowsItems names.old }
     requires few { length (texts_of names.old) + 1 < 2 ^ 32 }
     ensures known { OnOk result (KnowsItems names.new) }
     ensures more { OnOk result ((more : List (List ℕ)) × (texts_of names.new ≡ texts_of names.old ++ more)) }
-    ensures number { IfOk result (λ k. slice_get (texts_of names.new) k ≡ Some (decimal number)) }
+    ensures named { IfOk result (λ found. IfSome found (Names (texts_of names.new) (view tree.now))) }
+{
+    match whole_text(alloc, tree)? {
+        Some(text) => Ok(Some(names.number(alloc, text.as_slice())?)),
+        None => Ok(None),
+    }
+}
+
+/// The text of the whole number that the tree is, if it is one.
+fn whole_text(alloc: Global, tree: &Value) -> Result<Option<Vec<u8>>, NoMemory>
+    ensures { IfOk result (λ found. IfSome found (λ text. name_text (view tree.now) ≡ Some text.items)) }
 {
     let mut text = Vec::new(alloc);
+    if let Some(number) = tree.as_u64() {
+        append_number(&mut text, number)?;
+        return Ok(Some(text));
+    }
+    let Some(number) = tree.as_i64() else {
+        return Ok(None);
+    };
     append_number(&mut text, number)?;
-    names.number(alloc, text.as_slice())
+    Ok(Some(text))
 }
 
 /// Whether the text may be that of a key.

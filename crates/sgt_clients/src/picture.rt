@@ -406,7 +406,7 @@ fn add_before(scene: &mut Scene, before: Option<Stroke>, read: Stroke) -> Result
 }
 
 /// The append of the value to the key that is read.
-fn appender_of(clients: &Clients, read: Stroke, value: u32) -> Option<Stroke> {
+fn appender_of(clients: &Clients, read: Stroke, value: u64) -> Option<Stroke> {
     let key = seen_at(clients, read.transaction, read.position)?.key;
     for (transaction, one) in clients.transactions.iter().enumerate() {
         if let Some(position) = position_of(one.operations.as_slice(), key, value) {
@@ -417,7 +417,7 @@ fn appender_of(clients: &Clients, read: Stroke, value: u32) -> Option<Stroke> {
 }
 
 /// The position of the append of the value to the key.
-fn position_of(operations: &[Operation], of: u32, what: u32) -> Option<usize> {
+fn position_of(operations: &[Operation], of: u32, what: u64) -> Option<usize> {
     for (position, operation) in operations.iter().enumerate() {
         if is_append(operation, of, what) {
             return Some(position);
@@ -427,7 +427,7 @@ fn position_of(operations: &[Operation], of: u32, what: u32) -> Option<usize> {
 }
 
 /// Whether the operation appends the value to the key.
-fn is_append(operation: &Operation, of: u32, what: u32) -> bool {
+fn is_append(operation: &Operation, of: u32, what: u64) -> bool {
     match operation {
         Operation::Append { key, value } => *key == of && *value == what,
         Operation::Read { .. } => false,

@@ -19,6 +19,8 @@ pub(crate) enum Piece<'a> {
     Words(&'a [u8]),
     /// The number.
     Number(usize),
+    /// The value, which is stored by its bits.
+    Value(u64),
     /// The transaction: `t3`.
     Transaction(usize),
     /// The transaction and its entry: `t3 (line 7)`.
@@ -27,7 +29,7 @@ pub(crate) enum Piece<'a> {
     Key(u32),
     /// The values in brackets, separated by spaces: `[1 2]`. Of a long list only the last ones are shown, and those that
     /// are spoken of.
-    Values(&'a [u32], Spoken),
+    Values(&'a [u64], Spoken),
 }
 
 /// Appends the pieces in order.
@@ -51,6 +53,7 @@ fn append_piece(text: &mut Vec<u8>, clients: &Clients, piece: &Piece<'_>) -> Res
     match piece {
         Piece::Words(words) => Ok(text.extend_from_slice(words)?),
         Piece::Number(number) => Ok(append_number(text, *number)?),
+        Piece::Value(value) => Ok(append_number(text, value.cast_signed())?),
         Piece::Transaction(number) => Ok(append_numbered(text, b"t", number.saturating_add(1))?),
         Piece::Placed(number) => append_placed(text, clients, *number),
         Piece::Key(key) => append_key(text, clients, *key),
@@ -94,7 +97,7 @@ fn append_key(text: &mut Vec<u8>, clients: &Clients, key: u32) -> Result<(), NoM
 }
 
 /// Appends the values in brackets.
-fn append_values(text: &mut Vec<u8>, values: &[u32], spoken: Spoken) -> Result<(), NoMemory>
+fn append_values(text: &mut Vec<u8>, values: &[u64], spoken: Spoken) -> Result<(), NoMemory>
     ensures { OnOk result (text.new.items ≡ text.old.items ++ values_text spoken values.now) }
 {
     text.extend_from_slice(b"[")?;
@@ -104,7 +107,7 @@ fn append_values(text: &mut Vec<u8>, values: &[u32], spoken: Spoken) -> Result<(
 }
 
 /// Appends the values that are shown.
-fn append_shown(text: &mut Vec<u8>, values: &[u32], spoken: Spoken) -> Result<(), NoMemory>
+fn append_shown(text: &mut Vec<u8>, values: &[u64], spoken: Spoken) -> Result<(), NoMemory>
     ensures { OnOk result (text.new.items ≡ text.old.items ++ shown_text spoken values.now) }
 {
     if values.len() <= MOST_SHOWN {
@@ -116,7 +119,7 @@ fn append_shown(text: &mut Vec<u8>, values: &[u32], spoken: Spoken) -> Result<()
 }
 
 /// Appends each value that is spoken of, of those that are left out.
-fn append_left_out(text: &mut Vec<u8>, values: &[u32], spoken: Spoken) -> Result<(), NoMemory>
+fn append_left_out(text: &mut Vec<u8>, values: &[u64], spoken: Spoken) -> Result<(), NoMemory>
     ensures { OnOk result (text.new.items ≡ text.old.items ++ flat_map (left_out_text spoken) values.now) }
 {
     for value in values {
@@ -126,33 +129,33 @@ fn append_left_out(text: &mut Vec<u8>, values: &[u32], spoken: Spoken) -> Result
 }
 
 /// Appends the value, with two points after it, if it is spoken of.
-fn append_if_spoken(text: &mut Vec<u8>, value: u32, spoken: Spoken) -> Result<(), NoMemory>
+fn append_if_spoken(text: &mut Vec<u8>, value: u64, spoken: Spoken) -> Result<(), NoMemory>
     ensures { OnOk result (text.new.items ≡ text.old.items ++ left_out_text spoken value) }
 {
     if spoken.has(value) {
-        append_numbered(text, b" ", value)?;
+        append_numbered(text, b" ", value.cast_signed())?;
         text.extend_from_slice(b" ..")?;
     }
     Ok(())
 }
 
 /// Appends the values, separated by spaces.
-fn append_spaced(text: &mut Vec<u8>, values: &[u32]) -> Result<(), NoMemory>
+fn append_spaced(text: &mut Vec<u8>, values: &[u64]) -> Result<(), NoMemory>
     ensures { OnOk result (text.new.items ≡ text.old.items ++ spaced values.now) }
 {
     if values.is_empty() {
         return Ok(());
     }
-    append_number(text, values[0])?;
+    append_number(text, values[0].cast_signed())?;
     append_each(text, &values[1..])
 }
 
 /// Appends each value after a space.
-fn append_each(text: &mut Vec<u8>, values: &[u32]) -> Result<(), NoMemory>
+fn append_each(text: &mut Vec<u8>, values: &[u64]) -> Result<(), NoMemory>
     ensures { OnOk result (text.new.items ≡ text.old.items ++ flat_map next_value values.now) }
 {
     for value in values {
-        append_numbered(text, b" ", *value)?;
+        append_numbered(text, b" ", value.cast_signed())?;
     }
     Ok(())
 }

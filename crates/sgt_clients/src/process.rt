@@ -5,7 +5,7 @@ ghost use Rattle.sgt_notation.specs.Numbering.{KnowsItems, texts_of};
 ghost use Rattle.sgt_clients.specs.Entries.{IsOfProcess};
 
 use crate::fault::{Flaw, ReadError};
-use crate::operations::number_name;
+use crate::operations::whole_name;
 use serde_json::Value;
 use sgt_notation::Items;
 use std::alloc::Global;
@@ -29,8 +29,8 @@ pub(crate) fn read_process(
     }
     match tree.get("process") {
         Some(Value::String(name)) => Ok(processes.number(alloc, name.as_bytes())?),
-        Some(name) => match name.as_u64() {
-            Some(number) => Ok(number_name(alloc, processes, number)?),
+        Some(name) => match whole_name(alloc, processes, name)? {
+            Some(process) => Ok(process),
             None => Err(ReadError::Flaw(Flaw::Process)),
         },
         None => Err(ReadError::Flaw(Flaw::Process)),

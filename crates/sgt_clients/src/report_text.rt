@@ -5,11 +5,13 @@ ghost use Rattle.sgt_clients.specs.ReportText.{verdict_text, finding_text, count
 ghost use Rattle.sgt_clients.specs.Reports.{report_text};
 ghost use Rattle.sgt_clients.specs.declared.finding.Why.TheVariants.{RealTime};
 
+use crate::anomaly_text::append_anomalies;
 use crate::clients::Clients;
 use crate::counts::count;
 use crate::finding::{Finding, Step, Why};
 use crate::level_findings::LevelFindings;
 use crate::level_text::append_levels;
+use crate::order_text::append_orders;
 use crate::piece::{Piece, append_pieces};
 use crate::witness_text::{append_fault, append_reason};
 use sgt_appends::Transaction;
@@ -30,7 +32,9 @@ pub fn append_report(
     ensures { OnOk result (text.new.items ≡ text.old.items ++ report_text strict clients.now found.now) }
 {
     append_verdict(text, clients, &found.finding, strict)?;
-    append_levels(text, clients, found, strict)
+    append_levels(text, clients, found, strict)?;
+    append_orders(text, clients, &found.orders)?;
+    append_anomalies(text, clients, found.anomalies.as_slice())
 }
 
 /// Appends the lines of the verdict.
@@ -187,7 +191,11 @@ pub(crate) fn append_steps(
 }
 
 /// Appends the line of a step.
-fn append_step(text: &mut Vec<u8>, clients: &Clients, step: &Step) -> Result<(), NoMemory>
+pub(crate) fn append_step(
+    text: &mut Vec<u8>,
+    clients: &Clients,
+    step: &Step,
+) -> Result<(), NoMemory>
     ensures { OnOk result (text.new.items ≡ text.old.items ++ step_text clients.now step.now) }
 {
     append_pieces(

@@ -8,9 +8,8 @@ ghost use Rattle.sgt_clients.specs.Checks.{IsChecked, IsJudged, IsOutput, IsFaul
 ghost use Rattle.sgt_clients.specs.Levels.{AreFound};
 ghost use Rattle.sgt_clients.specs.declared.level.Answer.{Answer};
 ghost use Rattle.sgt_clients.specs.Faults.{IsOwn};
-ghost use Rattle.sgt_clients.specs.Reports.{report_text};
+ghost use Rattle.sgt_clients.specs.Reports.{report_text, json_text};
 ghost use Rattle.sgt_clients.specs.GraphText.{graph_text};
-ghost use Rattle.sgt_clients.specs.LevelJson.{json_text};
 
 use crate::clients::{Clients, read_clients};
 use crate::explained::explained;

@@ -69,11 +69,7 @@ fn label_of(alloc: Global, clients: &Clients, stroke: &Stroke) -> Result<Vec<u8>
         Some(sgt_appends::Operation::Append { key, value }) => append_pieces(
             &mut label,
             clients,
-            &[
-                Piece::Key(*key),
-                Piece::Words(b": +"),
-                Piece::Number(*value as usize),
-            ],
+            &[Piece::Key(*key), Piece::Words(b": +"), Piece::Value(*value)],
         )?,
         Some(sgt_appends::Operation::Read { key, values }) => append_pieces(
             &mut label,

@@ -29,7 +29,7 @@ pub(crate) fn append_ties(
 }
 
 /// Appends the line of a tie.
-fn append_tie(text: &mut Vec<u8>, clients: &Clients, tie: &Tie) -> Result<(), NoMemory>
+pub(crate) fn append_tie(text: &mut Vec<u8>, clients: &Clients, tie: &Tie) -> Result<(), NoMemory>
     ensures { OnOk result (text.new.items ≡ text.old.items ++ tie_text clients.now tie.now) }
 {
     append_pieces(
@@ -139,11 +139,11 @@ fn append_late(
         clients,
         &[
             Piece::Words(b", with "),
-            Piece::Number(put.value as usize),
+            Piece::Value(put.value),
             Piece::Words(b" of "),
             Piece::Transaction(tie.from),
             Piece::Words(b" and without "),
-            Piece::Number(other.value as usize),
+            Piece::Value(other.value),
             Piece::Words(b" of "),
             Piece::Transaction(tie.to),
         ],
@@ -217,9 +217,9 @@ fn append_part(text: &mut Vec<u8>, clients: &Clients, partial: &Partial) -> Resu
         clients,
         &[
             Piece::Words(b", with "),
-            Piece::Number(put.value as usize),
+            Piece::Value(put.value),
             Piece::Words(b" and without "),
-            Piece::Number(other.value as usize),
+            Piece::Value(other.value),
             Piece::Words(b", both of "),
             Piece::Placed(partial.by),
         ],

@@ -13,7 +13,7 @@ use std::collections::BTreeMap;
 #[derive(Clone, Copy)]
 struct Again {
     key: u32,
-    value: u32,
+    value: u64,
     /// The transaction that appends the value first.
     first: usize,
 }
@@ -25,7 +25,7 @@ pub(crate) fn twice_fault(alloc: Global, clients: &Clients) -> Result<ClientsFau
         if let Some(again) = first_met(&mut met, number, transaction.operations.as_slice())? {
             return Ok(ClientsFault::Twice(
                 position_of(clients, number),
-                again.value,
+                again.value.cast_signed(),
                 shown_name(alloc, clients.keys.as_slice(), again.key)?,
                 position_of(clients, again.first),
             ));
@@ -36,7 +36,7 @@ pub(crate) fn twice_fault(alloc: Global, clients: &Clients) -> Result<ClientsFau
 
 /// The first append of these operations of the transaction that is met again. The others are met now.
 fn first_met(
-    met: &mut BTreeMap<(u32, u32), usize>,
+    met: &mut BTreeMap<(u32, u64), usize>,
     number: usize,
     operations: &[Operation],
 ) -> Result<Option<Again>, NoMemory> {

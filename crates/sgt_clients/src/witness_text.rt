@@ -1,7 +1,7 @@
 //! The words of a witness.
 
 ghost use Rattle.std.specs.Prelude.{◌≡◌, ◌++◌, codes, OnOk};
-ghost use Rattle.std.specs.Fmt.{decimal};
+ghost use Rattle.sgt_clients.specs.Values.{value_text};
 ghost use Rattle.sgt_appends.specs.declared.witness.Reason.TheVariants.{Seen, Missed};
 ghost use Rattle.sgt_clients.specs.ReportText.{transaction_text, placed, key_text, values_text, operation_at, read_text, with_value, with_values, in_order_text, reason_text, ahead_text, aborted_text, swapped_text, wrong_text, spoken_of, fault_text};
 
@@ -89,7 +89,7 @@ fn append_key_values(
     text: &mut Vec<u8>,
     clients: &Clients,
     key: u32,
-    values: &[u32],
+    values: &[u64],
     spoken: Spoken,
 ) -> Result<(), NoMemory>
     ensures { OnOk result (text.new.items ≡ text.old.items ++ (codes " read key " ++ key_text clients.now key ++ codes " as " ++ values_text spoken values.now)) }
@@ -126,7 +126,7 @@ fn append_seen(
         clients,
         &[
             Piece::Words(b", with "),
-            Piece::Number(put.value as usize),
+            Piece::Value(put.value),
             Piece::Words(b", which "),
             Piece::Transaction(step.from),
             Piece::Words(b" appended"),
@@ -153,7 +153,7 @@ fn append_missed(
         clients,
         &[
             Piece::Words(b", without "),
-            Piece::Number(put.value as usize),
+            Piece::Value(put.value),
             Piece::Words(b", which "),
             Piece::Transaction(step.to),
             Piece::Words(b" appended"),
@@ -182,11 +182,11 @@ fn append_in_order(
         clients,
         &[
             Piece::Words(b", with "),
-            Piece::Number(put.value as usize),
+            Piece::Value(put.value),
             Piece::Words(b" of "),
             Piece::Transaction(step.from),
             Piece::Words(b" before "),
-            Piece::Number(other.value as usize),
+            Piece::Value(other.value),
             Piece::Words(b" of "),
             Piece::Transaction(step.to),
         ],
@@ -272,15 +272,11 @@ fn append_value(
     text: &mut Vec<u8>,
     clients: &Clients,
     words: &[u8],
-    value: u32,
+    value: u64,
 ) -> Result<(), NoMemory>
-    ensures { OnOk result (text.new.items ≡ text.old.items ++ (words.now ++ decimal value)) }
+    ensures { OnOk result (text.new.items ≡ text.old.items ++ (words.now ++ value_text value)) }
 {
-    append_pieces(
-        text,
-        clients,
-        &[Piece::Words(words), Piece::Number(value as usize)],
-    )
+    append_pieces(text, clients, &[Piece::Words(words), Piece::Value(value)])
 }
 
 /// Appends that the reader saw a value of a transaction that aborted.
@@ -303,7 +299,7 @@ fn append_of_aborted(
     text: &mut Vec<u8>,
     clients: &Clients,
     by: usize,
-    value: u32,
+    value: u64,
 ) -> Result<(), NoMemory>
     ensures { OnOk result (text.new.items ≡ text.old.items ++ aborted_text clients.now by value) }
 {
@@ -312,7 +308,7 @@ fn append_of_aborted(
         clients,
         &[
             Piece::Words(b", with "),
-            Piece::Number(value as usize),
+            Piece::Value(value),
             Piece::Words(b" of "),
             Piece::Placed(by),
             Piece::Words(b", which aborted"),
@@ -340,7 +336,7 @@ fn append_later(
     text: &mut Vec<u8>,
     clients: &Clients,
     reader: usize,
-    value: u32,
+    value: u64,
 ) -> Result<(), NoMemory>
     ensures { OnOk result (text.new.items ≡ text.old.items ++ ahead_text reader value) }
 {
@@ -349,7 +345,7 @@ fn append_later(
         clients,
         &[
             Piece::Words(b", with "),
-            Piece::Number(value as usize),
+            Piece::Value(value),
             Piece::Words(b", which "),
             Piece::Transaction(reader),
             Piece::Words(b" appended only later"),
@@ -378,13 +374,13 @@ fn append_swapped(
         clients,
         &[
             Piece::Words(b", with "),
-            Piece::Number(other.value as usize),
+            Piece::Value(other.value),
             Piece::Words(b" before "),
-            Piece::Number(put.value as usize),
+            Piece::Value(put.value),
             Piece::Words(b", but "),
             Piece::Placed(by),
             Piece::Words(b" appended "),
-            Piece::Number(put.value as usize),
+            Piece::Value(put.value),
             Piece::Words(b" first"),
         ],
     )

@@ -2,4 +2,6 @@ pub mod Engines
 pub mod Desks
 pub mod Asks
 pub mod Runs
+pub mod Attempts
 pub mod Turns
+pub mod Plans

@@ -188,10 +188,7 @@ impl<E: Answering> Desk<E> {
 fn next_number(number: u64) -> u64
     ensures { result ≡ next_number number }
 {
-    match number.checked_add(1) {
-        Some(next) => next,
-        None => 0,
-    }
+    number.checked_add(1).unwrap_or(0)
 }
 
 /// Whether a reply ends a live transaction.

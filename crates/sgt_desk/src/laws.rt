@@ -1,8 +1,13 @@
 //! Laws of turns, one after another.
-ghost use Rattle.sgt_desk.specs.Turns.{NoWakeIsLost};
+ghost use Rattle.sgt_desk.specs.Turns.{NoWakeIsLost, NoStartIsForgotten};
 
 /// No reason to rest ceases without a wake, however many turns come between: a call that rests for a reason that held is woken if it
 /// does not hold any more. What each turn does to the desk is what its `wakes` clause says.
 pub fn no_wake_is_lost()
     ensures { NoWakeIsLost }
+{}
+
+/// A start that waits for others, alone or not, is woken by a turn after which it need not wait, however many come between.
+pub fn no_start_is_forgotten()
+    ensures { NoStartIsForgotten }
 {}

@@ -19,10 +19,11 @@
 //! [`commit`], [`start`] and [`cut`] make the turns of these calls, [`run_procedure`] those of a procedure that is tried again after a
 //! conflict, and [`make`] an event that never rests.
 //!
+//! Beside the turns, [`Plan`] says when a cut of the configuration is due, and [`Solo`] and [`is_next_alone`] which tries are made alone.
+//!
 //! The desk knows its engine by the contracts of [`Answering`] alone. It keeps no list of the live transactions: the engine has it.
 //! It knows no threads, and does not promise that a thread is ever woken, which one comes next, or how long anything takes. It does not
-//! see that a call waits for its own thread, makes no cut by itself, has no attempt run alone after many conflicts, and keeps no list of
-//! the calls that ended, which the history has.
+//! see that a call waits for its own thread, and keeps no list of the calls that ended, which the history has.
 //!
 //! ```
 //! /// A turn of a commit, under the lock. The thread that makes it sleeps if it is `Rest`.
@@ -43,6 +44,7 @@
 //! ```
 #![tactic(auto)]
 
+mod alone;
 mod answering;
 mod ask;
 mod committing;
@@ -50,10 +52,12 @@ mod cutting;
 mod desk;
 mod laws;
 mod making;
+mod plan;
 mod reason;
 mod running;
 mod starting;
 
+pub use alone::{Solo, is_next_alone};
 pub use answering::Answering;
 pub use ask::{Ask, Deadline, Ticket, Turn};
 pub use committing::{commit, commit_turn};
@@ -61,6 +65,7 @@ pub use cutting::{cut, cut_turn};
 pub use desk::Desk;
 pub use laws::no_wake_is_lost;
 pub use making::{Asked, make};
+pub use plan::{Plan, Planned};
 pub use reason::Reason;
 pub use running::{Run, is_conflict, run_procedure};
 pub use starting::start;

@@ -2,9 +2,10 @@
 ghost use Rattle.std.specs.Prelude.{◌≡◌, ◌≢◌, ◌≤◌, ◌<◌, ℕ, true, false, cond, Ok, Some, None, IfOk, is_some};
 ghost use Rattle.sgt_model.specs.Fates.{live, start_count};
 ghost use Rattle.sgt_model.specs.declared.event.Event.TheVariants.{Start};
-ghost use Rattle.sgt_desk.specs.Asks.{has_come, is_of_cut, Rests, SameButReply};
+ghost use Rattle.sgt_desk.specs.Asks.{has_come, Rests, SameButReply};
 ghost use Rattle.sgt_desk.specs.Desks.{state, with_call, without_call, SameCounts, Wakes};
-ghost use Rattle.sgt_desk.specs.Runs.{is_conflict, is_over, named, RequestsOnly, Begins, IsOutcome, KeepsCalls, LeavesOnly, RunsWhy};
+ghost use Rattle.sgt_desk.specs.Attempts.{ActsFor, TurnsAttempt};
+ghost use Rattle.sgt_desk.specs.Runs.{is_conflict, is_over, named, RequestsOnly, Begins, IsOutcome, LeavesOnly, RunsWhy};
 
 use crate::answering::Answering;
 use crate::ask::{Ask, Deadline, Ticket, Turn};
@@ -75,12 +76,7 @@ fn end<E: Answering>(desk: &mut Desk<E>, ask: &mut Ask, t: Tid, wakes: &mut bool
     ensures ask { SameButReply ask.old ask.new }
     ensures outcome { IsOutcome ask.old.reply (Some t) (state E.state desk.old).past
         → IsOutcome ask.new.reply (Some t) (state E.state desk.new).past }
-    ensures starts { start_count (state E.state desk.new).past ≡ start_count (state E.state desk.old).past }
-    ensures calls { KeepsCalls (state E.state desk.old).past (state E.state desk.new).past }
-    ensures others { RequestsOnly (Some t) (state E.state desk.old).past (state E.state desk.new).past }
-    ensures part { (state E.state desk.new).part ≡ (state E.state desk.old).part }
-    ensures configuration { (state E.state desk.new).configuration ≡ (state E.state desk.old).configuration }
-    ensures counts { SameCounts (state E.state desk.old) (state E.state desk.new) }
+    ensures acts { ActsFor t (state E.state desk.old) (state E.state desk.new) }
     ensures wakes { Wakes (state E.state desk.old) (state E.state desk.new) wakes.new }
     ensures woken { wakes.old ≡ true → wakes.new ≡ true }
 {
@@ -102,12 +98,7 @@ fn step_on<E: Answering>(
     wakes: &mut bool,
 ) -> Result<ShortReply, NoMemory>
     ensures outcome { IfOk result (λ r. IsOutcome r (Some t) (state E.state desk.new).past) }
-    ensures starts { start_count (state E.state desk.new).past ≡ start_count (state E.state desk.old).past }
-    ensures calls { KeepsCalls (state E.state desk.old).past (state E.state desk.new).past }
-    ensures others { RequestsOnly (Some t) (state E.state desk.old).past (state E.state desk.new).past }
-    ensures part { (state E.state desk.new).part ≡ (state E.state desk.old).part }
-    ensures configuration { (state E.state desk.new).configuration ≡ (state E.state desk.old).configuration }
-    ensures counts { SameCounts (state E.state desk.old) (state E.state desk.new) }
+    ensures acts { ActsFor t (state E.state desk.old) (state E.state desk.new) }
     ensures wakes { Wakes (state E.state desk.old) (state E.state desk.new) wakes.new }
     ensures woken { wakes.old ≡ true → wakes.new ≡ true }
 {
@@ -141,22 +132,10 @@ fn end_attempt<E: Answering>(
     ensures outcome { IsOutcome run.new.ask.reply (Some t) (state E.state desk.new).past }
     ensures none { run.new.attempt ≡ None }
     ensures gone { live (state E.state desk.new).past t ≡ false }
-    ensures starts { start_count (state E.state desk.new).past ≡ start_count (state E.state desk.old).past }
-    ensures calls { KeepsCalls (state E.state desk.old).past (state E.state desk.new).past }
-    ensures others { RequestsOnly (Some t) (state E.state desk.old).past (state E.state desk.new).past }
-    ensures part { (state E.state desk.new).part ≡ (state E.state desk.old).part }
-    ensures configuration { (state E.state desk.new).configuration ≡ (state E.state desk.old).configuration }
-    ensures counts { SameCounts (state E.state desk.old) (state E.state desk.new) }
-    ensures kept { (run.new.tries ≡ run.old.tries) × (run.new.most ≡ run.old.most) × (run.new.ticket ≡ run.old.ticket) }
-    ensures deadline { run.new.ask.deadline ≡ run.old.ask.deadline }
-    ensures counted { run.new.ask.is_counted ≡ run.old.ask.is_counted }
-    ensures done { result ≡ Turn.Done → is_conflict run.new.ask.reply ≡ true → run.new.most ≤ run.new.tries }
-    ensures again { result ≡ Turn.Again → (is_conflict run.new.ask.reply ≡ true) × (run.new.tries < run.new.most) }
-    ensures rests { result ≡ Turn.Rest → Rests run.new.ask now (state E.state desk.new) }
+    ensures acts { ActsFor t (state E.state desk.old) (state E.state desk.new) }
+    ensures kept { (run.new.tries ≡ run.old.tries) × (run.new.ticket ≡ run.old.ticket) }
+    ensures turn { TurnsAttempt now run.old (state E.state desk.new) run.new (Ok result) }
     ensures why { RunsWhy (state E.state desk.new) None run.new.attempt run.new.ask.reply run.new.ask.reason }
-    ensures no_cut { result ≡ Turn.Rest → is_of_cut run.new.ask.reason ≡ false }
-    ensures late { result ≡ Turn.Late → has_come run.old.ask.deadline now ≡ true }
-    ensures stale { result ≢ Turn.Stale }
     ensures wakes { Wakes (state E.state desk.old) (state E.state desk.new) wakes.new }
     ensures woken { wakes.old ≡ true → wakes.new ≡ true }
 {
@@ -190,23 +169,10 @@ fn commit_attempt<E: Answering>(
 ) -> Result<Turn, NoMemory>
     ensures outcome { result ≡ Ok Turn.Done → IsOutcome run.new.ask.reply (Some t) (state E.state desk.new).past }
     ensures left { live (state E.state desk.new).past t ≡ true → run.new.attempt ≡ Some t }
-    ensures only { result ≢ Ok Turn.Rest → run.new.attempt ≡ None }
-    ensures starts { start_count (state E.state desk.new).past ≡ start_count (state E.state desk.old).past }
-    ensures calls { KeepsCalls (state E.state desk.old).past (state E.state desk.new).past }
-    ensures others { RequestsOnly (Some t) (state E.state desk.old).past (state E.state desk.new).past }
-    ensures part { (state E.state desk.new).part ≡ (state E.state desk.old).part }
-    ensures configuration { (state E.state desk.new).configuration ≡ (state E.state desk.old).configuration }
-    ensures counts { SameCounts (state E.state desk.old) (state E.state desk.new) }
-    ensures kept { (run.new.tries ≡ run.old.tries) × (run.new.most ≡ run.old.most) × (run.new.ticket ≡ run.old.ticket) }
-    ensures deadline { run.new.ask.deadline ≡ run.old.ask.deadline }
-    ensures counted { run.new.ask.is_counted ≡ run.old.ask.is_counted }
-    ensures done { result ≡ Ok Turn.Done → is_conflict run.new.ask.reply ≡ true → run.new.most ≤ run.new.tries }
-    ensures again { result ≡ Ok Turn.Again → (is_conflict run.new.ask.reply ≡ true) × (run.new.tries < run.new.most) }
-    ensures rests { result ≡ Ok Turn.Rest → Rests run.new.ask now (state E.state desk.new) }
+    ensures acts { ActsFor t (state E.state desk.old) (state E.state desk.new) }
+    ensures kept { (run.new.tries ≡ run.old.tries) × (run.new.ticket ≡ run.old.ticket) }
+    ensures turn { TurnsAttempt now run.old (state E.state desk.new) run.new result }
     ensures why { RunsWhy (state E.state desk.new) run.old.ask.reason run.new.attempt run.new.ask.reply run.new.ask.reason }
-    ensures no_cut { result ≡ Ok Turn.Rest → is_of_cut run.new.ask.reason ≡ false }
-    ensures late { result ≡ Ok Turn.Late → has_come run.old.ask.deadline now ≡ true }
-    ensures stale { result ≢ Ok Turn.Stale }
     ensures wakes { Wakes (state E.state desk.old) (state E.state desk.new) wakes.new }
     ensures woken { wakes.old ≡ true → wakes.new ≡ true }
 {
@@ -239,24 +205,15 @@ fn try_once<E: Answering>(
     requires none { run.old.attempt ≡ None }
     ensures outcome { result ≡ Ok Turn.Done → IsOutcome run.new.ask.reply (named run.new.ticket) (state E.state desk.new).past }
     ensures left { LeavesOnly None (start_count (state E.state desk.old).past) (state E.state desk.new).past run.new.attempt }
-    ensures only { result ≢ Ok Turn.Rest → run.new.attempt ≡ None }
     ensures call { Begins procedure args.now (state E.state desk.old) run.old (state E.state desk.new) run.new }
     ensures others { RequestsOnly (named run.new.ticket) (state E.state desk.old).past (state E.state desk.new).past }
     ensures part { (state E.state desk.new).part ≡ (state E.state desk.old).part }
     ensures configuration { (state E.state desk.new).configuration ≡ (state E.state desk.old).configuration }
     ensures over { is_over run.old.ask.deadline run.old.tries now ≡ true → state E.state desk.new ≡ state E.state desk.old }
     ensures cut { 0 < (state E.state desk.old).cutters → state E.state desk.new ≡ state E.state desk.old }
-    ensures most { run.new.most ≡ run.old.most }
     ensures counts { SameCounts (state E.state desk.old) (state E.state desk.new) }
-    ensures deadline { run.new.ask.deadline ≡ run.old.ask.deadline }
-    ensures counted { run.new.ask.is_counted ≡ run.old.ask.is_counted }
-    ensures done { result ≡ Ok Turn.Done → is_conflict run.new.ask.reply ≡ true → run.new.most ≤ run.new.tries }
-    ensures again { result ≡ Ok Turn.Again → (is_conflict run.new.ask.reply ≡ true) × (run.new.tries < run.new.most) }
-    ensures rests { result ≡ Ok Turn.Rest → Rests run.new.ask now (state E.state desk.new) }
+    ensures turn { TurnsAttempt now run.old (state E.state desk.new) run.new result }
     ensures why { RunsWhy (state E.state desk.new) run.old.ask.reason run.new.attempt run.new.ask.reply run.new.ask.reason }
-    ensures no_cut { result ≡ Ok Turn.Rest → is_of_cut run.new.ask.reason ≡ false }
-    ensures late { result ≡ Ok Turn.Late → has_come run.old.ask.deadline now ≡ true }
-    ensures stale { result ≢ Ok Turn.Stale }
     ensures wakes { Wakes (state E.state desk.old) (state E.state desk.new) wakes.new }
     ensures woken { wakes.old ≡ true → wakes.new ≡ true }
 {
@@ -304,23 +261,10 @@ fn attempt<E: Answering>(
 ) -> Result<Turn, NoMemory>
     ensures outcome { result ≡ Ok Turn.Done → IsOutcome run.new.ask.reply (Some t) (state E.state desk.new).past }
     ensures left { live (state E.state desk.new).past t ≡ true → run.new.attempt ≡ Some t }
-    ensures only { result ≢ Ok Turn.Rest → run.new.attempt ≡ None }
-    ensures starts { start_count (state E.state desk.new).past ≡ start_count (state E.state desk.old).past }
-    ensures calls { KeepsCalls (state E.state desk.old).past (state E.state desk.new).past }
-    ensures others { RequestsOnly (Some t) (state E.state desk.old).past (state E.state desk.new).past }
-    ensures part { (state E.state desk.new).part ≡ (state E.state desk.old).part }
-    ensures configuration { (state E.state desk.new).configuration ≡ (state E.state desk.old).configuration }
-    ensures counts { SameCounts (state E.state desk.old) (state E.state desk.new) }
-    ensures kept { (run.new.tries ≡ run.old.tries) × (run.new.most ≡ run.old.most) × (run.new.ticket ≡ run.old.ticket) }
-    ensures deadline { run.new.ask.deadline ≡ run.old.ask.deadline }
-    ensures counted { run.new.ask.is_counted ≡ run.old.ask.is_counted }
-    ensures done { result ≡ Ok Turn.Done → is_conflict run.new.ask.reply ≡ true → run.new.most ≤ run.new.tries }
-    ensures again { result ≡ Ok Turn.Again → (is_conflict run.new.ask.reply ≡ true) × (run.new.tries < run.new.most) }
-    ensures rests { result ≡ Ok Turn.Rest → Rests run.new.ask now (state E.state desk.new) }
+    ensures acts { ActsFor t (state E.state desk.old) (state E.state desk.new) }
+    ensures kept { (run.new.tries ≡ run.old.tries) × (run.new.ticket ≡ run.old.ticket) }
+    ensures turn { TurnsAttempt now run.old (state E.state desk.new) run.new result }
     ensures why { RunsWhy (state E.state desk.new) run.old.ask.reason run.new.attempt run.new.ask.reply run.new.ask.reason }
-    ensures no_cut { result ≡ Ok Turn.Rest → is_of_cut run.new.ask.reason ≡ false }
-    ensures late { result ≡ Ok Turn.Late → has_come run.old.ask.deadline now ≡ true }
-    ensures stale { result ≢ Ok Turn.Stale }
     ensures wakes { Wakes (state E.state desk.old) (state E.state desk.new) wakes.new }
     ensures woken { wakes.old ≡ true → wakes.new ≡ true }
 {
@@ -402,28 +346,19 @@ fn run_turn<E: Answering>(
     wakes: &mut bool,
 ) -> Result<Turn, NoMemory>
     ensures outcome { result ≡ Ok Turn.Done → IsOutcome run.new.ask.reply (named run.new.ticket) (state E.state desk.new).past }
-    ensures done { result ≡ Ok Turn.Done → is_conflict run.new.ask.reply ≡ true → run.new.most ≤ run.new.tries }
+    ensures turn { TurnsAttempt now run.old (state E.state desk.new) run.new result }
     ensures call { Begins procedure args.now (state E.state desk.old) run.old (state E.state desk.new) run.new }
     ensures others { RequestsOnly (named run.new.ticket) (state E.state desk.old).past (state E.state desk.new).past }
     ensures part { (state E.state desk.new).part ≡ (state E.state desk.old).part }
     ensures configuration { (state E.state desk.new).configuration ≡ (state E.state desk.old).configuration }
     ensures left { LeavesOnly run.old.attempt (start_count (state E.state desk.old).past) (state E.state desk.new).past
         run.new.attempt }
-    ensures only { result ≢ Ok Turn.Rest → run.new.attempt ≡ None }
     ensures over { is_over run.old.ask.deadline run.old.tries now ≡ true
         → start_count (state E.state desk.new).past ≡ start_count (state E.state desk.old).past }
     ensures cut { 0 < (state E.state desk.old).cutters
         → start_count (state E.state desk.new).past ≡ start_count (state E.state desk.old).past }
-    ensures again { result ≡ Ok Turn.Again → (is_conflict run.new.ask.reply ≡ true) × (run.new.tries < run.new.most) }
-    ensures rests { result ≡ Ok Turn.Rest → Rests run.new.ask now (state E.state desk.new) }
     ensures why { RunsWhy (state E.state desk.new) run.old.ask.reason run.new.attempt run.new.ask.reply run.new.ask.reason }
-    ensures no_cut { result ≡ Ok Turn.Rest → is_of_cut run.new.ask.reason ≡ false }
-    ensures late { result ≡ Ok Turn.Late → has_come run.old.ask.deadline now ≡ true }
-    ensures stale { result ≢ Ok Turn.Stale }
-    ensures most { run.new.most ≡ run.old.most }
     ensures counts { SameCounts (state E.state desk.old) (state E.state desk.new) }
-    ensures counted { run.new.ask.is_counted ≡ run.old.ask.is_counted }
-    ensures deadline { run.new.ask.deadline ≡ run.old.ask.deadline }
     ensures wakes { Wakes (state E.state desk.old) (state E.state desk.new) wakes.new }
     ensures woken { wakes.old ≡ true → wakes.new ≡ true }
 {

@@ -33,11 +33,11 @@ opened s x =
     (if x == 123 then record { mode = Between; depth = 1; is_value = false; is_first = true } else in_mode Between s)
     else record { mode = Between; depth = min (s.depth + 1) (2 ^ 64 - 1); is_value = turned s; is_first = true }
 
--- the text of such a byte
+-- the text of such a byte; a map is two objects, so that a brace which closes a vector closes more than is open
 abbrev pub open_text : Scan → ℕ → List ℕ
 open_text s x =
     if s.depth == 0 then (if x == 123 then codes "{" else codes " ")
-    else separator s ++ (if x == 123 then codes "{\"\":[" else codes "[")
+    else separator s ++ (if x == 123 then codes "{\"\":{\"\":[" else codes "[")
 
 -- after a byte that closes a collection
 abbrev pub closed : Scan → Scan
@@ -47,7 +47,7 @@ closed s = record { mode = Between; depth = s.depth - 1; is_value = s.is_value; 
 abbrev pub close_text : Scan → ℕ → List ℕ
 close_text s x =
     if s.depth == 0 then (if x == 125 then codes "#" else codes " ")
-    else (if x == 125 then (if s.depth == 1 then codes "}" else codes "]}") else codes "]")
+    else (if x == 125 then (if s.depth == 1 then codes "}" else codes "]}}") else codes "]")
 
 -- after a byte that is in no token, string or comment
 abbrev pub after_free : Scan → ℕ → Scan
@@ -80,6 +80,7 @@ after_hash s x =
     else (if x == 95 then in_mode Between s
     else (if is_end x then after_free s x else in_mode Tag s))
 
+-- the token that such a byte starts: two hashes start one
 abbrev pub hash_token : ℕ → List ℕ
 hash_token x = if x == 35 then codes "##" else []
 

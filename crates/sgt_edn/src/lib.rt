@@ -4,8 +4,8 @@
 //! in their order. In it become
 //!
 //! - vectors and lists: arrays
-//! - maps and sets: an object whose one member, of the empty name, has the items in an array. So they are not taken for
-//!   lists
+//! - maps and sets: an object whose one member, of the empty name, is an object whose one member, of the same name, has the
+//!   items in an array. So they are not taken for lists, and what a wrong bracket closes is not JSON
 //! - keywords, without their colon, symbols, characters and numbers that are not whole: strings
 //! - whole numbers, strings, `nil`, `true`, `false`: what they are in JSON
 //! - tags: nothing, and their values stay

@@ -269,7 +269,7 @@ fn append_open(json: &mut Vec<u8>, scan: Scan, byte: u8) -> Result<(), NoMemory>
     if scan.depth > 0 {
         append_separator(json, scan)?;
         if byte == b'{' {
-            json.extend_from_slice(b"{\"\":[")?;
+            json.extend_from_slice(b"{\"\":{\"\":[")?;
         } else {
             json.extend_from_slice(b"[")?;
         }
@@ -289,7 +289,7 @@ fn append_close(json: &mut Vec<u8>, scan: Scan, byte: u8) -> Result<(), NoMemory
         (0, b'}') => b"#",
         (0, _) => b" ",
         (1, b'}') => b"}",
-        (_, b'}') => b"]}",
+        (_, b'}') => b"]}}",
         (_, _) => b"]",
     };
     json.extend_from_slice(text)?;

@@ -6,7 +6,7 @@ use Rattle.sgt_model.specs.Configurations.{Configuration}
 use Rattle.sgt_model.specs.Legality.{Legal}
 use Rattle.sgt_model.proofs.Facts.{some_is}
 use Rattle.sgt_model.specs.ShortReplies.{fell_in}
-use Rattle.sgt_explain.specs.declared.source.Source.{Source}
+use Rattle.sgt_explain.specs.declared.source.SourceRead.{SourceRead}
 use Rattle.sgt_explain.specs.Firsts.{NoneBelow, IsFirst}
 use Rattle.sgt_model.specs.Accesses.{Access}
 use Rattle.sgt_model.specs.ReadFrom.{IsBy, LooksFrom}
@@ -56,11 +56,11 @@ reads_below entries place low t m within is same v reads =
     let (n, below, at) = store_placed entries m.key counts v (min low place) (omega (arith, within)) by in
     (n, omega (arith, below), at)
 
-pub if_none : {P : Type 0} (o : Option Source) → P → IfNone o P
+pub if_none : {P : Type 0} (o : Option SourceRead) → P → IfNone o P
 if_none None h = h
 if_none (Some x) h = tt
 
-pub source_first : (entries : List Entry) (end t place : ℕ) (reported : Source) → place < end → NoneBelow (ReadsUndoneAt entries end t) place
+pub source_first : (entries : List Entry) (end t place : ℕ) (reported : SourceRead) → place < end → NoneBelow (ReadsUndoneAt entries end t) place
     → ReportsLook entries t place reported → IsUndoneAt entries end reported.source → ReportsSource entries end t reported
 source_first entries end t place reported below none look undone = record {
   first = subst (IsFirst (ReadsUndoneAt entries end t) end) (sym look.place_is)
@@ -75,18 +75,18 @@ pub falls_item : (entries : List Entry) (place number t : ℕ) (e : Entry) (fell
 falls_item entries place number t e fell is same at =
     ap (λ o. slice_get (listed_by (λ (x : Entry). fell_in x.reply) o) number) is ∙ ap (λ l. slice_get l number) (sym same) ∙ at
 
-some_unless : (o : Option Source) (P : Type 0) → IfNone o P → (P → ⊥) → IsSome o
+some_unless : (o : Option SourceRead) (P : Type 0) → IfNone o P → (P → ⊥) → IsSome o
 some_unless None P none not = absurd (not none)
 some_unless (Some x) P none not = refl
 
-pub some_source : (entries : List Entry) (place number reader : ℕ) (o : Option Source)
+pub some_source : (entries : List Entry) (place number reader : ℕ) (o : Option SourceRead)
     → slice_get (placed_falls entries place) number ≡ Some reader → IfNone o (NoneBelow (ReadsUndoneAt entries place reader) place)
     → (t n : ℕ) → slice_get (placed_falls entries place) number ≡ Some t → n < place → ReadsUndoneAt entries place t n → IsSome o
 some_source entries place number reader o at none t n at_t below reads =
     let same : t ≡ reader = some_is t reader (sym at_t ∙ at) in
     some_unless o _ none (λ h. h n below (subst (λ u. ReadsUndoneAt entries place u n) same reads))
 
-pub all_sources : (entries : List Entry) (place number reader : ℕ) (o : Option Source) → place < length entries
+pub all_sources : (entries : List Entry) (place number reader : ℕ) (o : Option SourceRead) → place < length entries
     → slice_get (placed_falls entries place) number ≡ Some reader → IfNone o (NoneBelow (ReadsUndoneAt entries place reader) place)
     → (s : Configuration) → Legal s (reverse entries) → IsSome o
 all_sources entries place number reader o within at none s legal =

@@ -22,7 +22,7 @@ use Rattle.sgt_model.proofs.Aborts.{aborts_have_cause}
 use Rattle.sgt_model.proofs.Facts.{some_is}
 use Rattle.sgt_model.proofs.NoOrder.{pair_made}
 use Rattle.sgt_model.proofs.Paths.{last_is_member}
-use Rattle.sgt_explain.specs.declared.edge.Edge.{Edge}
+use Rattle.sgt_explain.specs.declared.edge.CycleEdge.{CycleEdge}
 use Rattle.sgt_explain.specs.Places.{entries_before, cycle_in, listed_by, placed_cycle}
 use Rattle.sgt_explain.specs.CycleEdges.{ReportsFrom, ReportsEdge, HasEdgeFrom, HasEdge, wanted_by, WasAbout, IsPairAt}
 use Rattle.sgt_explain.proofs.Prefixes.{entry_there, legal_there}
@@ -80,7 +80,7 @@ edge_from entries end t k kind None next h = h
 edge_from entries end t k kind (Some a) (Some b) h = h.precedes
 edge_from entries end t k kind (Some a) None h = h.conflict
 
-pair_from : (entries : List Entry) (end t : ℕ) (k : Key) (kind : Kind) (edge : Edge) (one next first : Option ℕ) → first ≡ Some t
+pair_from : (entries : List Entry) (end t : ℕ) (k : Key) (kind : Kind) (edge : CycleEdge) (one next first : Option ℕ) → first ≡ Some t
     → Along (Pair (entries_before entries end)) (Closing (entries_before entries end) t k kind) one next
     → ReportsFrom entries end k kind edge one next first
     → IsPairAt entries end edge
@@ -154,7 +154,7 @@ edges_are_there s entries place n k kind within legal about below =
     (edge_from entries place w.t k kind _ _ (along_closed (entries_before entries place) w.t k kind w.rest w.closes n short))
 
 -- and the edge returned is a conflict
-reported_is_pair : (s : Configuration) (entries : List Entry) (place n : ℕ) (k : Key) (kind : Kind) (edge : Edge) → place < length entries
+reported_is_pair : (s : Configuration) (entries : List Entry) (place n : ℕ) (k : Key) (kind : Kind) (edge : CycleEdge) → place < length entries
     → Legal s (reverse entries) → WasAbout s entries place k kind → n < length (placed_cycle entries place)
     → ReportsEdge entries place k kind (placed_cycle entries place) n edge → IsPairAt entries place edge
 reported_is_pair s entries place n k kind edge within legal about below reported =
@@ -169,7 +169,7 @@ one_there : (entries : List Entry) (end : ℕ) (k : Key) (kind : Kind) (one next
 one_there entries end k kind None next h = absurd h
 one_there entries end k kind (Some t) next h = (t, refl)
 
-pub reported_are_pairs : (entries : List Entry) (place n : ℕ) (k : Key) (kind : Kind) → place < length entries → (reported : Option Edge)
+pub reported_are_pairs : (entries : List Entry) (place n : ℕ) (k : Key) (kind : Kind) → place < length entries → (reported : Option CycleEdge)
     → IfSome reported (ReportsEdge entries place k kind (placed_cycle entries place) n)
     → (IsSome reported → HasEdge entries place k kind (placed_cycle entries place) n)
     → IfSome reported (λ edge. (s : Configuration) → Legal s (reverse entries) → WasAbout s entries place k kind → IsPairAt entries place edge)

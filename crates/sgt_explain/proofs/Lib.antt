@@ -2,7 +2,7 @@ pub mod Prefixes
 pub mod Conflicts
 pub mod LegalCycles
 pub mod LegalFalls
-pub mod Steps
+pub mod StartingCalls
 pub mod Requests
 pub mod Endings
 pub mod NewestStores

@@ -7,7 +7,7 @@ use Rattle.sgt_model.specs.Accesses.{Access}
 use Rattle.sgt_model.specs.Pairs.{FollowsIn, Precedes}
 use Rattle.sgt_model.specs.Aborts.{IsAccessBy}
 use Rattle.sgt_model.specs.ReadFrom.{IsBy}
-use Rattle.sgt_explain.specs.declared.edge.Edge.{Edge}
+use Rattle.sgt_explain.specs.declared.edge.CycleEdge.{CycleEdge}
 use Rattle.sgt_explain.specs.Places.{entries_before, placed_access}
 use Rattle.sgt_explain.specs.Edges.{ConflictsAt, FollowsAt, ReportsAccess, ReportsPair}
 use Rattle.sgt_explain.proofs.Backward.{NoneFrom, IsFirstFrom, none_back}
@@ -32,17 +32,17 @@ pub no_follow_from : (entries : List Entry) (t u low end : ℕ)
 no_follow_from entries t u low end none m from below h = none m from below (follow_by (entries_before entries m) (placed_access entries m) t u h)
 
 -- the first access from there on, with its edge
-pub record PairFirst (entries : List Entry) (end t u low : ℕ) (edge : Edge) : Type 0 where
+pub record PairFirst (entries : List Entry) (end t u low : ℕ) (edge : CycleEdge) : Type 0 where
   pub at : ℕ
   pub first : IsFirstFrom (FollowsAt entries t u) low end at
   pub access : ReportsAccess entries t u at edge
 
-abbrev pub PairFrom : List Entry → (end t u low : ℕ) → Option Edge → Type 0
+abbrev pub PairFrom : List Entry → (end t u low : ℕ) → Option CycleEdge → Type 0
 PairFrom entries end t u low None = NoneFrom (FollowsAt entries t u) low end
 PairFrom entries end t u low (Some edge) = PairFirst entries end t u low edge
 
 -- one position back
-pub pair_back : (entries : List Entry) (end t u low rest : ℕ) (o : Option Edge) → 0 < low → PairFrom entries end t u low o
+pub pair_back : (entries : List Entry) (end t u low rest : ℕ) (o : Option CycleEdge) → 0 < low → PairFrom entries end t u low o
     → (low - 1 < end → FollowsAt entries t u (low - 1) → ⊥) → NoneFrom (λ n. IsBy (placed_access entries n) u) rest (low - 1)
     → PairFrom entries end t u rest o
 pair_back entries end t u low rest None some later here before =
@@ -58,7 +58,7 @@ pair_back entries end t u low rest (Some edge) some later here before = let firs
   access = later.access;
 }
 
-pub pair_here : (entries : List Entry) (end t u low rest : ℕ) (edge : Edge) → low - 1 < end → FollowsAt entries t u (low - 1)
+pub pair_here : (entries : List Entry) (end t u low rest : ℕ) (edge : CycleEdge) → low - 1 < end → FollowsAt entries t u (low - 1)
     → ReportsAccess entries t u (low - 1) edge → NoneFrom (λ n. IsBy (placed_access entries n) u) rest (low - 1)
     → PairFrom entries end t u rest (Some edge)
 pair_here entries end t u low rest edge below holds access before = record {
@@ -68,7 +68,7 @@ pair_here entries end t u low rest edge below holds access before = record {
 }
 
 -- the whole search
-pub pair_reported : (entries : List Entry) (end t u low : ℕ) (o : Option Edge) → low ≤ 0 → PairFrom entries end t u low o
+pub pair_reported : (entries : List Entry) (end t u low : ℕ) (o : Option CycleEdge) → low ≤ 0 → PairFrom entries end t u low o
     → IfSome o (ReportsPair entries end t u)
 pair_reported entries end t u low None zero found = tt
 pair_reported entries end t u low (Some edge) zero found = let first = found.first in record {
@@ -81,7 +81,7 @@ pair_reported entries end t u low (Some edge) zero found = let first = found.fir
   access = found.access;
 }
 
-pub pair_some : (entries : List Entry) (end t u low : ℕ) (o : Option Edge) → end ≤ length entries → low ≤ 0
+pub pair_some : (entries : List Entry) (end t u low : ℕ) (o : Option CycleEdge) → end ≤ length entries → low ≤ 0
     → PairFrom entries end t u low o → (IsSome o → Precedes (entries_before entries end) t u) × (Precedes (entries_before entries end) t u → IsSome o)
 pair_some entries end t u low None within zero found = (
   λ some. absurd (cc),

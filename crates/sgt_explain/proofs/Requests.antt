@@ -11,23 +11,23 @@ use Rattle.sgt_model.specs.Configurations.{Configuration}
 use Rattle.sgt_explain.specs.Places.{entries_before}
 use Rattle.sgt_explain.specs.CycleEdges.{requested_access, wanted_by, WasAbout}
 
-pub requested_about : (entries : List Entry) (place : ℕ) (e : Entry) → slice_get entries place ≡ Some e → (event : Event) → e.event ≡ event
-    → IfSome (requested_access event) (λ p. (s : Configuration) → WasAbout s entries place p.key p.kind)
-requested_about entries place e there (Access t (Read k)) same = λ s. record {
+pub requested_about : (event : Event) → IfSome (requested_access event) (λ p. (s : Configuration) (entries : List Entry) (place : ℕ)
+    (e : Entry) → slice_get entries place ≡ Some e → e.event ≡ event → WasAbout s entries place p.key p.kind)
+requested_about (Access t (Read k)) = λ s entries place e there same. record {
   entry = e;
   there = there;
   by = t;
   named = ap named_by same;
   wants = subst (λ v. Wants (wanted_by s (entries_before entries place) t v) k Look) (sym same) (refl, refl);
 }
-requested_about entries place e there (Access t (Write k v)) same = λ s. record {
+requested_about (Access t (Write k v)) = λ s entries place e there same. record {
   entry = e;
   there = there;
   by = t;
   named = ap named_by same;
   wants = subst (λ v. Wants (wanted_by s (entries_before entries place) t v) k Store) (sym same) (refl, refl);
 }
-requested_about entries place e there (Start p args) same = tt
-requested_about entries place e there (Step t) same = tt
-requested_about entries place e there (Commit t) same = tt
-requested_about entries place e there (Quit t) same = tt
+requested_about (Start p args) = tt
+requested_about (Step t) = tt
+requested_about (Commit t) = tt
+requested_about (Quit t) = tt

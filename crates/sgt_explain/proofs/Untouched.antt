@@ -1,11 +1,10 @@
--- What a transaction is before the first position that its index names: it has read nothing, made nothing, and has no fate.
-use Rattle.std.proofs.Common.{◌≡◌, ℕ, zero, suc, ◌+◌, ◌<◌, ◌≤◌, ◌⊎◌, Bool, true, false, cond, List, [], ◌∷◌, ◌++◌, take, get_or, Option, Some, None, length, nat_eq, refl, sym, ap, subst, inl, inr, ◌∙◌, arith}
+-- What a transaction is before the first position that its index names: it has no fate.
+use Rattle.std.proofs.Common.{◌≡◌, ℕ, zero, suc, ◌+◌, ◌<◌, ◌≤◌, ◌⊎◌, Bool, true, false, cond, List, [], ◌∷◌, ◌++◌, take, get_or, Option, Some, None, length, refl, sym, ap, subst, inl, inr, ◌∙◌, arith}
 use Rattle.std.specs.Option.{option_and_then, option_or}
-use Rattle.std.proofs.lemmas.Bool.{eqb-true}
 use Rattle.std.proofs.lemmas.List.{take_more}
 use Rattle.sgt_model.specs.declared.entry.Entry.{Entry}
 use Rattle.sgt_model.specs.Contents.{Key}
-use Rattle.sgt_model.specs.Accesses.{Access, access_of, act_in, acts}
+use Rattle.sgt_model.specs.Accesses.{Access, access_of}
 use Rattle.sgt_model.specs.Fates.{ending_in, fate_of}
 use Rattle.sgt_model.specs.ReadFrom.{IsBy}
 use Rattle.sgt_model.specs.Paths.{Member}
@@ -13,26 +12,6 @@ use Rattle.sgt_model.specs.Values.{stores, newest_store}
 use Rattle.sgt_explain.specs.Places.{entries_before, placed_access}
 use Rattle.sgt_explain.specs.Indexes.{IsUntouched}
 use Rattle.sgt_explain.proofs.Prefixes.{entry_there, before_next, access_there}
-
-act_of_other : (o : Option Access) (t : ℕ) (rest : List Access) → (IsBy o t → ⊥) → act_in o t rest ≡ rest
-act_of_other None t rest other = refl
-act_of_other (Some a) t rest other = by_test (nat_eq a.by t) refl
-  where
-    by_test : (b : Bool) → nat_eq a.by t ≡ b → cond b (a ∷ rest) rest ≡ rest
-    by_test true is = absurd (other (eqb-true a.by t is))
-    by_test false is = refl
-
-pub no_acts : (entries : List Entry) (t low : ℕ) → low ≤ length entries → ((n : ℕ) → n < low → IsUntouched entries t n)
-    → acts (entries_before entries low) t ≡ []
-no_acts entries t zero within none = refl
-no_acts entries t (suc low) within none =
-    let (e, is) = entry_there entries low (omega (arith, within)) in
-    let one : suc low ≡ low + 1 = omega arith in
-    let other : IsBy (access_of e) t → ⊥ = subst (λ o. IsBy o t → ⊥) (access_there entries low e is) (none low (omega arith)).0 in
-    ap (λ n. acts (entries_before entries n) t) one
-    ∙ ap (λ past. acts past t) (before_next entries low e is)
-    ∙ act_of_other (access_of e) t (acts (entries_before entries low) t) other
-    ∙ no_acts entries t low (omega (arith, within)) (λ n below. none n (omega (arith, below)))
 
 pub no_fate : (entries : List Entry) (t low : ℕ) → low ≤ length entries → ((n : ℕ) → n < low → IsUntouched entries t n)
     → fate_of (entries_before entries low) t ≡ None

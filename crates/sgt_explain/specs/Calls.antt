@@ -4,7 +4,7 @@ use Rattle.std.specs.Option.{option_and_then}
 use Rattle.sgt_model.specs.declared.entry.Entry.{Entry}
 use Rattle.sgt_model.specs.Progress.{call_in}
 use Rattle.sgt_model.specs.Progress as progress
-use Rattle.sgt_explain.specs.declared.progress.Call.{Call}
+use Rattle.sgt_explain.specs.declared.call.Call.{Call}
 
 -- the procedure and the arguments that it names
 abbrev pub called : Call → progress.Call

@@ -14,21 +14,21 @@ use Rattle.sgt_model.specs.Questions.{named_by}
 use Rattle.sgt_model.specs.declared.event.Event.{Event}
 use Rattle.sgt_model.specs.declared.event.Event.TheVariants as event
 use Rattle.sgt_model.specs.declared.event.Request.TheVariants.{Read, Write}
-use Rattle.sgt_explain.specs.declared.edge.Edge.{Edge}
+use Rattle.sgt_explain.specs.declared.edge.CycleEdge.{CycleEdge}
 use Rattle.sgt_explain.specs.declared.explanation.Pending.{Pending}
 use Rattle.sgt_explain.specs.Places.{entries_before}
 use Rattle.sgt_explain.specs.Edges.{ReportsPair, ReportsPending}
 
 -- an edge of a cycle leads from one to the next, and from the last, which has no next, to the first. That last edge
 -- is caused by an access of that kind of the key, which the first was about to make after the entries before the end
-abbrev pub ReportsFrom : List Entry → (end : ℕ) → Key → Kind → Edge → (one next first : Option ℕ) → Type 0
+abbrev pub ReportsFrom : List Entry → (end : ℕ) → Key → Kind → CycleEdge → (one next first : Option ℕ) → Type 0
 ReportsFrom entries end key kind edge None next first = ⊥
 ReportsFrom entries end key kind edge (Some t) (Some u) first = ReportsPair entries end t u edge
 ReportsFrom entries end key kind edge (Some t) None None = ⊥
 ReportsFrom entries end key kind edge (Some t) None (Some u) = ReportsPending entries end t u key kind edge
 
 -- this is edge number n of the cycle, from 0
-abbrev pub ReportsEdge : List Entry → (end : ℕ) → Key → Kind → List ℕ → (n : ℕ) → Edge → Type 0
+abbrev pub ReportsEdge : List Entry → (end : ℕ) → Key → Kind → List ℕ → (n : ℕ) → CycleEdge → Type 0
 ReportsEdge entries end key kind cycle n edge =
     ReportsFrom entries end key kind edge (slice_get cycle n) (slice_get cycle (n + 1)) (slice_get cycle 0)
 
@@ -63,10 +63,10 @@ pub record WasAbout (s : Configuration) (entries : List Entry) (place : ℕ) (ke
 
 -- the two of an edge conflict in a history; if its later access was about to be made, they would conflict with that
 -- access added as an entry
-abbrev pub IsPairIn : List Entry → Edge → (place : Option ℕ) → Type 0
+abbrev pub IsPairIn : List Entry → CycleEdge → (place : Option ℕ) → Type 0
 IsPairIn past edge (Some n) = Pair past edge.from edge.to
 IsPairIn past edge None = (e : Entry) → IsAccessBy (access_of e) edge.to edge.key edge.kind → Pair (e ∷ past) edge.from edge.to
 
 -- the same for the history before a position
-abbrev pub IsPairAt : List Entry → (place : ℕ) → Edge → Type 0
+abbrev pub IsPairAt : List Entry → (place : ℕ) → CycleEdge → Type 0
 IsPairAt entries place edge = IsPairIn (entries_before entries place) edge edge.place

@@ -8,7 +8,7 @@ use Rattle.sgt_model.specs.Contents.{Key}
 use Rattle.sgt_model.specs.Pairs.{one_stores, FollowsIn}
 use Rattle.sgt_model.specs.Aborts.{IsAccessBy}
 use Rattle.sgt_explain.specs.declared.edge.Earlier.{Earlier}
-use Rattle.sgt_explain.specs.declared.edge.Edge.{Edge}
+use Rattle.sgt_explain.specs.declared.edge.CycleEdge.{CycleEdge}
 use Rattle.sgt_explain.specs.Firsts.{IsFirst, FirstOrNone}
 use Rattle.sgt_explain.specs.Places.{entries_before, placed_access}
 
@@ -27,7 +27,7 @@ abbrev pub FollowsAt : List Entry → (t u place : ℕ) → Type 0
 FollowsAt entries t u place = FollowsIn (entries_before entries place) (placed_access entries place) t u
 
 -- u's access at this position, and those of t that come before it and conflict with it
-pub record ReportsAccess (entries : List Entry) (t u place : ℕ) (edge : Edge) : Type 0 where
+pub record ReportsAccess (entries : List Entry) (t u place : ℕ) (edge : CycleEdge) : Type 0 where
   pub from : edge.from ≡ t
   pub to : edge.to ≡ u
   pub place_is : edge.place ≡ Some place
@@ -35,14 +35,14 @@ pub record ReportsAccess (entries : List Entry) (t u place : ℕ) (edge : Edge) 
   pub earlier : ReportsEarlier entries place t edge.key edge.kind edge.earlier
 
 -- why t comes before u in the entries before the end: u's first access that an earlier one of t's conflicts with
-pub record ReportsPair (entries : List Entry) (end t u : ℕ) (edge : Edge) : Type 0 where
+pub record ReportsPair (entries : List Entry) (end t u : ℕ) (edge : CycleEdge) : Type 0 where
   pub at : ℕ
   pub first : IsFirst (FollowsAt entries t u) end at
   pub access : ReportsAccess entries t u at edge
 
 -- why t would come before u after the entries before the end: because of an access of that kind of the key, which u
 -- was about to make
-pub record ReportsPending (entries : List Entry) (end t u : ℕ) (key : Key) (kind : Kind) (edge : Edge) : Type 0 where
+pub record ReportsPending (entries : List Entry) (end t u : ℕ) (key : Key) (kind : Kind) (edge : CycleEdge) : Type 0 where
   pub from : edge.from ≡ t
   pub to : edge.to ≡ u
   pub key_is : edge.key ≡ key

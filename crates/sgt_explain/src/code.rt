@@ -5,7 +5,6 @@ use crate::refusal::append_name;
 use crate::text::append_number;
 use crate::words::Words;
 use sgt_model::{NoMemory, Tid};
-use std::alloc::AllocError;
 
 /// Appends that a procedure aborted a transaction with a code, as
 /// `DepositChecking aborted 3 with code 2 (the amount is negative)`.
@@ -24,7 +23,8 @@ pub fn append_code_abort(
     let mut line = Vec::new(*text.allocator());
     append_name(&mut line, procedure)?;
     append_number(&mut line, b" aborted ", t.0)?;
-    append_meaning(&mut line, b" with code ", words, procedure, code)?;
+    line.extend_from_slice(b" with ")?;
+    append_code(&mut line, words, procedure, code)?;
     text.extend_from_slice(line.as_slice())?;
     Ok(())
 }
@@ -42,7 +42,12 @@ pub fn append_code(
     ensures err { OnErr result (text.new.items ≡ text.old.items) }
 {
     let mut line = Vec::new(*text.allocator());
-    append_meaning(&mut line, b"code ", words, procedure, code)?;
+    append_number(&mut line, b"code ", code)?;
+    if let Some(meaning) = words.of(procedure, code) {
+        line.extend_from_slice(b" (")?;
+        line.extend_from_slice(meaning.as_bytes())?;
+        line.extend_from_slice(b")")?;
+    }
     text.extend_from_slice(line.as_slice())?;
     Ok(())
 }
@@ -60,28 +65,9 @@ pub fn append_code_of(
     ensures err { OnErr result (text.new.items ≡ text.old.items) }
 {
     let mut line = Vec::new(*text.allocator());
-    append_meaning(&mut line, b"code ", words, procedure, code)?;
+    append_code(&mut line, words, procedure, code)?;
     line.extend_from_slice(b" of ")?;
     append_name(&mut line, procedure)?;
     text.extend_from_slice(line.as_slice())?;
     Ok(())
-}
-
-// Appends the beginning and the code, and what it means.
-fn append_meaning(
-    text: &mut Vec<u8>,
-    beginning: &[u8],
-    words: &Words,
-    procedure: u16,
-    code: u16,
-) -> Result<(), AllocError> {
-    append_number(text, beginning, code)?;
-    match words.of(procedure, code) {
-        Some(meaning) => {
-            text.extend_from_slice(b" (")?;
-            text.extend_from_slice(meaning.as_bytes())?;
-            text.extend_from_slice(b")")
-        }
-        None => Ok(()),
-    }
 }

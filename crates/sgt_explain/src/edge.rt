@@ -24,7 +24,7 @@ pub struct Earlier {
 
 /// An edge of a cycle, with the accesses of its two transactions that conflict.
 #[derive(Clone, Copy, Debug, PartialEq, Eq)]
-pub struct Edge {
+pub struct CycleEdge {
     /// The transaction that comes first.
     pub from: Tid,
     /// The transaction that comes second.
@@ -52,7 +52,7 @@ pub fn cycle_edge(
     number: usize,
     key: Key,
     kind: Kind,
-) -> Option<Edge>
+) -> Option<CycleEdge>
     ensures reported { IfSome result
         (ReportsEdge history.now place key kind (placed_cycle history.now place) number) }
     ensures some { IsSome result
@@ -93,7 +93,7 @@ fn path_edge(
     number: usize,
     key: Key,
     kind: Kind,
-) -> Option<Edge>
+) -> Option<CycleEdge>
     requires { end ≤ length history.now }
     ensures reported { IfSome result (ReportsEdge history.now end key kind cycle.now number) }
     ensures some { IsSome result ↔ HasEdge history.now end key kind cycle.now number }
@@ -115,26 +115,24 @@ fn pending_edge(
     to: Tid,
     key: Key,
     kind: Kind,
-) -> Option<Edge>
+) -> Option<CycleEdge>
     requires { end ≤ length history.now }
     ensures reported { IfSome result (ReportsPending history.now end from to key kind) }
     ensures some { IsSome result ↔ (has_conflicting (entries_before history.now end) from key kind ≡ true) }
 {
-    match earlier(history, end, from, key, kind) {
-        Some(earlier) => Some(Edge {
-            from,
-            to,
-            key,
-            kind,
-            place: None,
-            earlier,
-        }),
-        None => None,
-    }
+    let earlier = earlier(history, end, from, key, kind)?;
+    Some(CycleEdge {
+        from,
+        to,
+        key,
+        kind,
+        place: None,
+        earlier,
+    })
 }
 
 // Why one comes before another in the entries before `end`, if it does.
-fn pair_edge(history: &IndexedHistory, end: usize, from: Tid, to: Tid) -> Option<Edge>
+fn pair_edge(history: &IndexedHistory, end: usize, from: Tid, to: Tid) -> Option<CycleEdge>
     requires { end ≤ length history.now }
     ensures reported { IfSome result (ReportsPair history.now end from to) }
     ensures some { IsSome result ↔ Precedes (entries_before history.now end) from to }
@@ -154,7 +152,7 @@ fn pair_edge(history: &IndexedHistory, end: usize, from: Tid, to: Tid) -> Option
 }
 
 // The access of the second at this position, and the conflicting ones of the first before it, if there are any.
-fn access_edge(history: &IndexedHistory, place: usize, from: Tid, to: Tid) -> Option<Edge>
+fn access_edge(history: &IndexedHistory, place: usize, from: Tid, to: Tid) -> Option<CycleEdge>
     requires { place < length history.now }
     ensures reported { IfSome result (ReportsAccess history.now from to place) }
     ensures some { IsSome result ↔ FollowsAt history.now from to place }
@@ -163,15 +161,13 @@ fn access_edge(history: &IndexedHistory, place: usize, from: Tid, to: Tid) -> Op
     if made.by != to {
         return None;
     }
-    match earlier(history, place, from, made.key, made.kind) {
-        Some(earlier) => Some(Edge {
-            from,
-            to,
-            key: made.key,
-            kind: made.kind,
-            place: Some(place),
-            earlier,
-        }),
-        None => None,
-    }
+    let earlier = earlier(history, place, from, made.key, made.kind)?;
+    Some(CycleEdge {
+        from,
+        to,
+        key: made.key,
+        kind: made.kind,
+        place: Some(place),
+        earlier,
+    })
 }

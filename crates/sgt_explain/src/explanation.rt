@@ -1,10 +1,10 @@
 //! All lines that explain one abort.
 ghost use Rattle.std.specs.Prelude.{◌≡◌, take, OnErr, vec_len};
 
-use crate::edge::{Edge, cycle_edge};
+use crate::edge::{CycleEdge, cycle_edge};
 use crate::indexed_history::IndexedHistory;
-use crate::source::{Source, fall_source};
-use crate::text::{append_edge_line, append_source_line};
+use crate::source::fall_source;
+use crate::text::{append_edge, append_source};
 use sgt_model::{Key, Kind, NoMemory};
 use std::alloc::AllocError;
 
@@ -25,7 +25,8 @@ pub struct Pending {
 /// - a line for each edge of its cycle, if it aborts by one and the access that was about to be made is given;
 /// - a line for each transaction that it aborts in cascade.
 ///
-/// For any other entry it appends nothing. The list is as for `append_edge`.
+/// For any other entry it appends nothing. The list maps the position of each entry to the number of its line. An entry
+/// past the end of the list is named `entry 7`, by its position from 0.
 ///
 /// `NoMemory` if an allocation failed; then the text is unchanged.
 pub fn append_explanation(
@@ -39,23 +40,12 @@ pub fn append_explanation(
     ensures err { OnErr result (text.new.items ≡ text.old.items) }
 {
     let mut reported = Vec::new(*text.allocator());
-    append_all(&mut reported, history, place, pending, lines)?;
+    if let Some(pending) = pending {
+        append_edges(&mut reported, history, place, pending, lines)?;
+    }
+    append_sources(&mut reported, history, place, lines)?;
     text.extend_from_slice(reported.as_slice())?;
     Ok(())
-}
-
-// Appends the lines of both kinds.
-fn append_all(
-    text: &mut Vec<u8>,
-    history: &IndexedHistory,
-    place: usize,
-    pending: Option<Pending>,
-    lines: &[u64],
-) -> Result<(), AllocError> {
-    if let Some(pending) = pending {
-        append_edges(text, history, place, pending, lines)?;
-    }
-    append_sources(text, history, place, lines)
 }
 
 // Appends a line for each edge of the cycle.
@@ -76,12 +66,12 @@ fn append_edges(
 // Appends an edge's line, if there is one.
 fn append_if_edge(
     text: &mut Vec<u8>,
-    edge: Option<Edge>,
+    edge: Option<CycleEdge>,
     place: usize,
     lines: &[u64],
 ) -> Result<(), AllocError> {
     match edge {
-        Some(edge) => append_edge_line(text, &edge, place, lines),
+        Some(edge) => append_edge(text, &edge, place, lines),
         None => Ok(()),
     }
 }
@@ -94,21 +84,9 @@ fn append_sources(
     lines: &[u64],
 ) -> Result<(), AllocError> {
     for number in 0..MOST {
-        let source = fall_source(history, place, number);
-        append_if_source(text, source, place, lines)?;
+        if let Some(source) = fall_source(history, place, number) {
+            append_source(text, &source, place, lines)?;
+        }
     }
     Ok(())
-}
-
-// Appends a source's line, if there is one.
-fn append_if_source(
-    text: &mut Vec<u8>,
-    source: Option<Source>,
-    place: usize,
-    lines: &[u64],
-) -> Result<(), AllocError> {
-    match source {
-        Some(source) => append_source_line(text, &source, place, lines),
-        None => Ok(()),
-    }
 }

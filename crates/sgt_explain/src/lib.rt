@@ -16,27 +16,22 @@
 //! both as lines of text.
 //!
 //! The crate runs nothing and knows no procedures. So the caller says which access the aborted transaction was about
-//! to make. If the transaction's caller had decided on it, [`requested_at`] returns it. Else it is the next access of
-//! its procedure; [`call_before`] and [`progress_before`] return what the procedure needs for that.
+//! to make. If the transaction's caller had decided on it, [`requested_by`] returns it. Else it is the next access of
+//! its procedure, as the engine knows it before the event.
 //!
 //! ```
-//! // The next access of the transaction that is aborted at a position.
-//! let call = call_before(history, place, t)?;
-//! let progress = progress_before(alloc, history, place, t)?;
-//! let next = procedures[call.procedure as usize].next(&call.args, progress.read.as_slice(), progress.made);
-//!
 //! // "line 12: 1 would write 2/101, which 0 read at line 6 and wrote at line 10", and one such line for each other edge.
 //! append_explanation(&mut text, history, place, Some(Pending { key, kind: Kind::Store }), &lines)?;
 //! ```
 #![tactic(auto)]
 
 mod bounds;
+mod call;
 mod code;
 mod edge;
 mod explanation;
 mod indexed_history;
 mod made;
-mod progress;
 mod refusal;
 mod requested;
 mod search;
@@ -45,13 +40,12 @@ mod text;
 mod words;
 mod writers;
 
+pub use call::{Call, call_before, call_by};
 pub use code::{append_code, append_code_abort, append_code_of};
-pub use edge::{Earlier, Edge, cycle_edge};
+pub use edge::{CycleEdge, Earlier, cycle_edge};
 pub use explanation::{Pending, append_explanation};
 pub use indexed_history::IndexedHistory;
-pub use progress::{Call, Progress, call_before, progress_before};
 pub use refusal::{Refusal, append_refusal, refusal_of};
-pub use requested::requested_at;
-pub use source::{Source, fall_source};
-pub use text::{append_edge, append_source};
+pub use requested::requested_by;
+pub use source::{SourceRead, fall_source};
 pub use words::Words;

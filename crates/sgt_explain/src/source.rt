@@ -16,7 +16,7 @@ use sgt_model::{Key, Kind, Tid};
 
 /// A read of another transaction's value.
 #[derive(Clone, Copy, Debug, PartialEq, Eq)]
-pub struct Source {
+pub struct SourceRead {
     /// The transaction that read.
     pub reader: Tid,
     /// The transaction that wrote the value.
@@ -33,7 +33,7 @@ pub struct Source {
 ///
 /// None if no transaction is aborted there, if there is none of this number, or if there is no such read. In a legal
 /// history each has one.
-pub fn fall_source(history: &IndexedHistory, place: usize, number: usize) -> Option<Source>
+pub fn fall_source(history: &IndexedHistory, place: usize, number: usize) -> Option<SourceRead>
     ensures reported { IfSome result (λ source. (t : ℕ) → slice_get (placed_falls history.now place) number ≡ Some t
         → ReportsSource history.now place t source) }
     ensures one { IsSome result → number < length (placed_falls history.now place) }
@@ -51,7 +51,7 @@ pub fn fall_source(history: &IndexedHistory, place: usize, number: usize) -> Opt
 }
 
 // The transaction's first read before the end from one that is aborted there.
-fn first_source(history: &IndexedHistory, end: usize, reader: Tid) -> Option<Source>
+fn first_source(history: &IndexedHistory, end: usize, reader: Tid) -> Option<SourceRead>
     requires { end < length history.now }
     ensures reported { IfSome result (ReportsSource history.now end reader) }
     ensures none { IfNone result (NoneBelow (ReadsUndoneAt history.now end reader) end) }
@@ -109,7 +109,7 @@ fn is_undone(history: &IndexedHistory, end: usize, t: Tid) -> bool
 }
 
 // The transaction that is read from at this position, if there is one, and its write is not before the low position.
-fn source_at(history: &IndexedHistory, low: usize, place: usize, reader: Tid) -> Option<Source>
+fn source_at(history: &IndexedHistory, low: usize, place: usize, reader: Tid) -> Option<SourceRead>
     requires { place < length history.now }
     ensures reported { IfSome result (ReportsLook history.now reader place) }
     ensures some { IfSome result (λ source. (v : ℕ) → ReadsAt history.now reader v place → source.source ≡ v) }
@@ -124,7 +124,7 @@ fn source_at(history: &IndexedHistory, low: usize, place: usize, reader: Tid) ->
     if source == reader {
         return None;
     }
-    Some(Source {
+    Some(SourceRead {
         reader,
         source,
         key: made.key,

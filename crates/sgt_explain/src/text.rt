@@ -1,60 +1,18 @@
 //! The lines of text of edges and of cascading aborts.
-ghost use Rattle.std.specs.Prelude.{◌≡◌, take, OnErr, vec_len};
 
-use crate::edge::{Earlier, Edge};
-use crate::source::Source;
+use crate::edge::{CycleEdge, Earlier};
+use crate::source::SourceRead;
 use itoa::{Buffer, Integer};
-use sgt_model::{Key, Kind, NoMemory};
+use sgt_model::{Key, Kind};
 use std::alloc::AllocError;
 
 /// Appends the line of an edge of the cycle by which the entry at this position aborts a transaction. If its later
 /// access was about to be made, the line reads `line 12: 1 would write 2/101, which 0 read at line 8 and wrote at
 /// line 10`. Else it reads `line 12: 0 wrote 2/102 at line 10, which 1 read at line 7`. The line of the abort comes
-/// first.
-///
-/// The list maps the position of each entry to the number of its line. An entry past the end of the list is named
-/// `entry 7`, by its position from 0.
-///
-/// `NoMemory` if an allocation failed; then the text is unchanged.
+/// first. The list is as for `append_explanation`.
 pub fn append_edge(
     text: &mut Vec<u8>,
-    edge: &Edge,
-    place: usize,
-    lines: &[u64],
-) -> Result<(), NoMemory>
-    ensures kept { take (vec_len text.old) text.new.items ≡ text.old.items }
-    ensures err { OnErr result (text.new.items ≡ text.old.items) }
-{
-    let mut line = Vec::new(*text.allocator());
-    append_edge_line(&mut line, edge, place, lines)?;
-    text.extend_from_slice(line.as_slice())?;
-    Ok(())
-}
-
-/// Appends the line of a transaction that the entry at this position aborts in cascade: its read from one that is
-/// aborted there, as `line 12: 3 read 2/101 of 1 at line 9`. The line of the abort comes first. The list is as for
-/// `append_edge`.
-///
-/// `NoMemory` if an allocation failed; then the text is unchanged.
-pub fn append_source(
-    text: &mut Vec<u8>,
-    source: &Source,
-    place: usize,
-    lines: &[u64],
-) -> Result<(), NoMemory>
-    ensures kept { take (vec_len text.old) text.new.items ≡ text.old.items }
-    ensures err { OnErr result (text.new.items ≡ text.old.items) }
-{
-    let mut line = Vec::new(*text.allocator());
-    append_source_line(&mut line, source, place, lines)?;
-    text.extend_from_slice(line.as_slice())?;
-    Ok(())
-}
-
-/// Appends an edge's line.
-pub fn append_edge_line(
-    text: &mut Vec<u8>,
-    edge: &Edge,
+    edge: &CycleEdge,
     place: usize,
     lines: &[u64],
 ) -> Result<(), AllocError> {
@@ -66,10 +24,11 @@ pub fn append_edge_line(
     text.extend_from_slice(b"\n")
 }
 
-/// Appends a source's line.
-pub fn append_source_line(
+/// Appends the line of a transaction that the entry at this position aborts in cascade: its read from one that is
+/// aborted there, as `line 12: 3 read 2/101 of 1 at line 9`. The line of the abort comes first. The list is as there.
+pub fn append_source(
     text: &mut Vec<u8>,
-    source: &Source,
+    source: &SourceRead,
     place: usize,
     lines: &[u64],
 ) -> Result<(), AllocError> {
@@ -82,7 +41,7 @@ pub fn append_source_line(
 }
 
 // Appends what the later access of an edge does, or would have done.
-fn append_later(text: &mut Vec<u8>, edge: &Edge, lines: &[u64]) -> Result<(), AllocError> {
+fn append_later(text: &mut Vec<u8>, edge: &CycleEdge, lines: &[u64]) -> Result<(), AllocError> {
     match edge.place {
         Some(place) => {
             append_key(text, done_by(edge.kind), edge.key)?;

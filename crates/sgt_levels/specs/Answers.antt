@@ -7,6 +7,8 @@ use Rattle.sgt_levels.specs.declared.levels.Committed.TheVariants.{Run, Fault, P
 use Rattle.sgt_levels.specs.declared.levels.Snapshot.{Snapshot}
 use Rattle.sgt_levels.specs.declared.levels.Snapshot.TheVariants.{NotCommitted}
 use Rattle.sgt_levels.specs.declared.levels.Snapshot.TheVariants as snapshots
+use Rattle.sgt_levels.specs.declared.ordered.Ordered.{Ordered}
+use Rattle.sgt_levels.specs.declared.ordered.Ordered.TheVariants as ordered
 use Rattle.sgt_levels.specs.declared.levels.Writes.{Writes}
 use Rattle.sgt_levels.specs.declared.levels.Writes.TheVariants as writes
 use Rattle.sgt_levels.specs.declared.levels.Levels.{Levels}
@@ -37,6 +39,12 @@ IsWritesRight h writes.Implied = IsReadUncommitted h
 IsWritesRight h (writes.Order order) = IsWriteOrder h order.items
 IsWritesRight h (writes.Cycle ties) = ¬ IsReadUncommitted h
 IsWritesRight h writes.Open = Unit {0}
+
+-- `Run`: the order is that of a snapshot run, and replays with the starts
+abbrev pub IsOrderedRight : List Transaction → Ordered → Type 0
+IsOrderedRight h (ordered.Run run) = IsSnapshotRight h (snapshots.Run run)
+IsOrderedRight h (ordered.Cycle passages) = Unit {0}
+IsOrderedRight h ordered.Open = Unit {0}
 
 -- all answers are right
 pub record AreRight (h : List Transaction) (levels : Levels) : Type 0 where

@@ -60,9 +60,10 @@ AreFirst h k seen list = (n : ℕ) × AreKept h k seen (take n list)
 abbrev pub FitsAt : List Transaction → (ℕ → List ℕ) → ℕ → ℕ → Type 0
 FitsAt h lists t p = (k : ℕ) (seen : List ℕ) → Ended h t Committed → IsReadAt h t p k seen → AreFirst h k seen (lists k)
 
--- the same at each position, and for each transaction
+-- the same at each position
 abbrev pub FitsIn : List Transaction → (ℕ → List ℕ) → ℕ → Type 0
 FitsIn h lists t = (p : ℕ) → FitsAt h lists t p
 
+-- the same of every transaction
 abbrev pub AllFit : List Transaction → (ℕ → List ℕ) → Type 0
 AllFit h lists = (t : ℕ) → FitsIn h lists t

@@ -12,7 +12,7 @@ use std::collections::BTreeMap;
 #[derive(Drop)]
 pub struct Column {
     /// Its values.
-    pub values: Vec<u32>,
+    pub values: Vec<u64>,
     /// For each value the position in the order of the transaction that appended it.
     pub places: Vec<usize>,
 }
@@ -43,7 +43,7 @@ impl Columns {
     }
 
     /// Appends the value to the list of the key, by the transaction at this place of the order.
-    fn put(&mut self, alloc: Global, key: u32, value: u32, place: usize) -> Result<(), NoMemory>
+    fn put(&mut self, alloc: Global, key: u32, value: u64, place: usize) -> Result<(), NoMemory>
         ensures values { OnOk result ((k : ℕ) → values_in self.new k
             ≡ (if k == key then values_in self.old k ++ value ∷ [] else values_in self.old k)) }
         ensures places { OnOk result ((k : ℕ) → places_in self.new k
@@ -97,7 +97,7 @@ impl Columns {
     }
 
     /// Whether the list of the key was this one before the place of the order.
-    pub fn stood(&self, key: u32, base: &[u32], start: usize) -> bool
+    pub fn stood(&self, key: u32, base: &[u64], start: usize) -> bool
         ensures { IsTrue result → IsFront (values_in self.now key) (places_in self.now key) base.now start }
     {
         match self.find(key) {

@@ -4,11 +4,11 @@ ghost use Rattle.sgt_appends.specs.declared.transaction.Transaction.{Transaction
 ghost use Rattle.sgt_appends.specs.Precedences.{AppendsOnce};
 ghost use Rattle.sgt_appends.specs.Indexes.{position_of, IsIndex};
 ghost use Rattle.sgt_appends.specs.Reads.{HasFault};
-ghost use Rattle.sgt_levels.specs.Commits.{IsReadCommitted};
+ghost use Rattle.sgt_levels.specs.Commits.{IsCommittedRun, IsReadCommitted};
 ghost use Rattle.sgt_levels.specs.Answers.{AreRight, IsWritesRight, IsCommittedRight, IsSnapshotRight};
 
 use crate::replay::{is_committed_run, is_snapshot_run};
-use crate::search::{Found, Snapshots, one_by_one, search_commits, search_snapshots};
+use crate::search::{Found, Orders, Snapshots, search_commits, search_snapshots, ties_in};
 use crate::survey::{Partial, Survey};
 use crate::tie::{Tie, rules_out_committed, rules_out_partial, rules_out_snapshot};
 use crate::write_search::{WriteSearch, search_writes};
@@ -70,12 +70,13 @@ pub struct Levels {
     pub snapshot: Snapshot,
 }
 
-/// Which of the levels what the clients saw is of. The hint is a serial run, if one is known, or empty.
+/// Which of the levels what the clients saw is of. `clean` says that no read is known to have a fault, and that reads of a
+/// key are prefixes of one another: then no fault is searched for.
 ///
 /// Each order, each run and each cycle is tested. All are open if a value is appended twice to a key, or if a transaction
-/// with an unknown end has a read. Otherwise snapshot isolation is undecided only if there is no serial run and
-/// transactions append to one key values that no read saw. That is tested, not proved.
-pub fn levels_of(alloc: Global, history: &[Transaction], hint: &[usize]) -> Result<Levels, NoMemory>
+/// with an unknown end has a read. Otherwise snapshot isolation is undecided only if transactions append to one key
+/// values that no read saw. That is tested, not proved.
+pub fn levels_of(alloc: Global, history: &[Transaction], clean: bool) -> Result<Levels, NoMemory>
     ensures { IfOk result (AreRight history.now) }
 {
     let Some(appends) = AppendIndex::of_history(alloc, history)? else {
@@ -92,7 +93,7 @@ pub fn levels_of(alloc: Global, history: &[Transaction], hint: &[usize]) -> Resu
             snapshot: Snapshot::Open,
         });
     }
-    if let Some((reader, read, fault)) = fault_of(alloc, history, &appends)? {
+    if let Some((reader, read, fault)) = fault_of(alloc, history, &appends, clean)? {
         return Ok(Levels {
             writes: search_order(alloc, history, &appends)?,
             committed: Committed::Fault {
@@ -104,13 +105,13 @@ pub fn levels_of(alloc: Global, history: &[Transaction], hint: &[usize]) -> Resu
         });
     }
     let survey = Survey::of_history(alloc, history, &appends)?;
-    let committed = committed_of(alloc, history, &survey)?;
-    let snapshot = snapshot_of(alloc, history, &survey, &committed, hint)?;
+    let snapshot = snapshot_of(alloc, history, &survey)?;
+    let committed = committed_of(alloc, history, &survey, &snapshot)?;
     let writes = writes_of(alloc, history, &appends, &committed)?;
     Ok(Levels {
         writes,
+        snapshot: snapshot_under(&committed, snapshot),
         committed,
-        snapshot,
     })
 }
 
@@ -170,23 +171,57 @@ fn is_run(committed: &Committed) -> bool
     }
 }
 
-/// A fault of a read, if there is one.
+/// A fault of a read, if there is one, unless none is to be searched for.
 fn fault_of(
     alloc: Global,
     history: &[Transaction],
     appends: &AppendIndex,
+    clean: bool,
 ) -> Result<Option<(usize, usize, Fault)>, NoMemory>
     requires { IsIndex history.now (position_of appends.now) }
     ensures { IfOk result (λ found. IfSome found (λ x. HasFault history.now x.0 x.1 x.2)) }
 {
+    if clean {
+        return Ok(None);
+    }
     if let Some(found) = first_fault(alloc, history, appends)? {
         return Ok(Some(found));
     }
     first_incompatible(alloc, history)
 }
 
-/// Whether there is a run of committed reads.
+/// The order of commits of a snapshot run, if there is one.
+fn order_of(alloc: Global, snapshot: &Snapshot) -> Result<Option<Vec<usize>>, NoMemory>
+    ensures { IfOk result (λ found. IfSome found (λ order. (h : List Transaction)
+        → IsSnapshotRight h snapshot.now → IsCommittedRun h order.items)) }
+{
+    match snapshot {
+        Snapshot::Run(run) => Ok(Some(Vec::from_slice(alloc, run.order.as_slice())?)),
+        Snapshot::NotCommitted => Ok(None),
+        Snapshot::Cycle(_) => Ok(None),
+        Snapshot::Open => Ok(None),
+    }
+}
+
+/// Whether there is a run of committed reads, after the answer for snapshots: a snapshot run is one.
 fn committed_of(
+    alloc: Global,
+    history: &[Transaction],
+    survey: &Survey,
+    snapshot: &Snapshot,
+) -> Result<Committed, NoMemory>
+    requires once { AppendsOnce history.now }
+    requires snapshot { IsSnapshotRight history.now snapshot.now }
+    ensures { IfOk result (IsCommittedRight history.now) }
+{
+    match order_of(alloc, snapshot)? {
+        Some(order) => Ok(Committed::Run(order)),
+        None => committed_alone(alloc, history, survey),
+    }
+}
+
+/// Whether there is a run of committed reads.
+fn committed_alone(
     alloc: Global,
     history: &[Transaction],
     survey: &Survey,
@@ -216,38 +251,41 @@ fn committed_of(
     }
 }
 
-/// Whether there is a snapshot run.
+/// The answer for snapshots, after that for committed reads.
+fn snapshot_under(committed: &Committed, snapshot: Snapshot) -> Snapshot
+    ensures { (h : List Transaction) → IsCommittedRight h committed.now → IsSnapshotRight h snapshot → IsSnapshotRight h result }
+{
+    if is_no(committed) {
+        return Snapshot::NotCommitted;
+    }
+    snapshot
+}
+
+/// Whether there is a snapshot run. That is left open if a read is partial.
 fn snapshot_of(
     alloc: Global,
     history: &[Transaction],
     survey: &Survey,
-    committed: &Committed,
-    hint: &[usize],
 ) -> Result<Snapshot, NoMemory>
-    requires once { AppendsOnce history.now }
-    requires committed { IsCommittedRight history.now committed.now }
+    requires { AppendsOnce history.now }
     ensures { IfOk result (IsSnapshotRight history.now) }
 {
-    if is_no(committed) {
-        return Ok(Snapshot::NotCommitted);
+    if survey.partial.is_some() {
+        return Ok(Snapshot::Open);
     }
-    let serial = one_by_one(alloc, hint)?;
-    if is_snapshot_run(
-        alloc,
-        history,
-        serial.order.as_slice(),
-        serial.starts.as_slice(),
-    )? {
-        return Ok(Snapshot::Run(serial));
-    }
-    match search_snapshots(alloc, history, survey)? {
+    let orders = Orders {
+        before: &[],
+        barriers: 0,
+    };
+    match search_snapshots(alloc, history, survey, orders)? {
         Found::Run(run) => {
             if is_snapshot_run(alloc, history, run.order.as_slice(), run.starts.as_slice())? {
                 return Ok(Snapshot::Run(run));
             }
             Ok(Snapshot::Open)
         }
-        Found::Ties(ties) => {
+        Found::Cycle(passages) => {
+            let ties = ties_in(alloc, passages.as_slice())?;
             if rules_out_snapshot(history, ties.as_slice()) {
                 return Ok(Snapshot::Cycle(ties));
             }

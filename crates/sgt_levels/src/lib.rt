@@ -24,6 +24,7 @@
 mod columns;
 mod laws;
 mod levels;
+mod ordered;
 mod replay;
 mod ruling;
 mod search;
@@ -42,10 +43,11 @@ pub use laws::{
     splits_are_enough, tails_depend, write_cycles_are_enough, write_skew_is_between,
 };
 pub use levels::{Committed, Levels, Snapshot, Writes, levels_of};
+pub use ordered::{Ordered, ordered_run};
 pub use replay::{is_committed_run, is_snapshot_run};
 pub use ruling::{Level, ruled_out};
-pub use search::Snapshots;
+pub use search::{Orders, Snapshots};
 pub use survey::Partial;
-pub use tie::{Ground, Tie, rules_out_committed, rules_out_partial, rules_out_snapshot};
+pub use tie::{Ground, Passage, Tie, rules_out_committed, rules_out_partial, rules_out_snapshot};
 pub use unseen::{Unseen, unseen_appends};
 pub use writes::{is_write_order, rules_out_uncommitted};

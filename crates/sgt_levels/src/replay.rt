@@ -182,7 +182,7 @@ fn holds(
 }
 
 /// Whether a read of the key saw the list before the place of the order, and then its own appends.
-fn sees_after(columns: &Columns, key: u32, own: &[u32], seen: &[u32], from: usize) -> bool
+fn sees_after(columns: &Columns, key: u32, own: &[u64], seen: &[u64], from: usize) -> bool
     ensures { IsTrue result → (base : List ℕ) × (seen.now ≡ base ++ own.now) × IsFront (values_in columns.now key) (places_in columns.now key) base from }
 {
     ends_with(seen, own) && columns.stood(key, &seen[..seen.len() - own.len()], from)

@@ -3,7 +3,7 @@ ghost use Rattle.std.specs.Prelude.{IsTrue};
 ghost use Rattle.sgt_appends.specs.Graphs.{AreWithin};
 
 use crate::survey::{Survey, Visit, length_of};
-use crate::tie::{Ground, Tie};
+use crate::tie::{Ground, Passage, Tie};
 use sgt_appends::{Link, Reason, Sorted, Transaction, sort};
 use sgt_model::NoMemory;
 use std::alloc::Global;
@@ -16,25 +16,13 @@ pub struct Snapshots {
     pub starts: Vec<usize>,
 }
 
-/// The run in which each transaction begins when all before it have committed.
-pub fn one_by_one(alloc: Global, order: &[usize]) -> Result<Snapshots, NoMemory> {
-    let mut starts = Vec::new(alloc);
-    for place in 0..order.len() {
-        starts.push(place)?;
-    }
-    Ok(Snapshots {
-        order: Vec::from_slice(alloc, order)?,
-        starts,
-    })
-}
-
 /// What the search for a snapshot run found.
 #[derive(Drop)]
 pub enum Found {
     /// A run.
     Run(Snapshots),
-    /// Ties that leave none.
-    Ties(Vec<Tie>),
+    /// A cycle that leaves none.
+    Cycle(Vec<Passage>),
     /// Neither.
     Nothing,
 }
@@ -97,6 +85,11 @@ fn tied(number: usize) -> Reason {
     }
 }
 
+/// The reason of a link by which a transaction comes before another.
+fn before() -> Reason {
+    Reason::Seen { append: 0, read: 1 }
+}
+
 /// The transactions that take part, in their order.
 fn taking_part(alloc: Global, survey: &Survey, nodes: &[usize]) -> Result<Vec<usize>, NoMemory> {
     let mut order = Vec::new(alloc);
@@ -108,15 +101,30 @@ fn taking_part(alloc: Global, survey: &Survey, nodes: &[usize]) -> Result<Vec<us
     Ok(order)
 }
 
-/// The ties of the links. A link from a begin to the end of a line and one from there to a commit make one tie.
-fn ties_of(alloc: Global, survey: &Survey, cycle: &[Link]) -> Result<Vec<Tie>, NoMemory> {
-    let mut ties = Vec::new(alloc);
+/// The passages of the links. A link from a begin to the end of a line and one from there to a commit make one, and so do
+/// those from a commit through barriers to a begin. `ends` is the first node after begins and commits.
+fn passages_of(
+    alloc: Global,
+    survey: &Survey,
+    cycle: &[Link],
+    ends: usize,
+) -> Result<Vec<Passage>, NoMemory> {
+    let mut passages = Vec::new(alloc);
     let mut enters = None;
+    let mut left = 0;
     for link in cycle {
         match link.reason {
+            Reason::Seen { read: 1, .. } => {
+                if link.from < ends {
+                    left = link.from / 2;
+                }
+                if link.to < ends {
+                    passages.push(passage(left, link.to / 2, None))?;
+                }
+            }
             Reason::Seen { append, .. } => {
                 if let Some(tie) = survey.ties.get(append) {
-                    ties.push(*tie)?;
+                    passages.push(passage(tie.from, tie.to, Some(tie.ground)))?;
                 }
             }
             Reason::Missed { read, append } => match enters {
@@ -124,13 +132,39 @@ fn ties_of(alloc: Global, survey: &Survey, cycle: &[Link]) -> Result<Vec<Tie>, N
                     let to = link.to / 2;
                     if from != to {
                         let ground = Ground::Missed { read, append };
-                        ties.push(Tie { from, to, ground })?;
+                        passages.push(passage(from, to, Some(ground)))?;
                     }
                     enters = None;
                 }
                 None => enters = Some((link.from / 2, read)),
             },
             Reason::InOrder { .. } => (),
+        }
+    }
+    Ok(passages)
+}
+
+/// The passage from the one to the other.
+fn passage(from: usize, to: usize, ground: Option<Ground>) -> Passage {
+    Passage { from, to, ground }
+}
+
+/// The ties of a cycle of links.
+fn ties_of(alloc: Global, survey: &Survey, cycle: &[Link]) -> Result<Vec<Tie>, NoMemory> {
+    let passages = passages_of(alloc, survey, cycle, 0)?;
+    ties_in(alloc, passages.as_slice())
+}
+
+/// Those of the passages that are ties.
+pub fn ties_in(alloc: Global, passages: &[Passage]) -> Result<Vec<Tie>, NoMemory> {
+    let mut ties = Vec::new(alloc);
+    for passage in passages {
+        if let Some(ground) = passage.ground {
+            ties.push(Tie {
+                from: passage.from,
+                to: passage.to,
+                ground,
+            })?;
         }
     }
     Ok(ties)
@@ -144,20 +178,49 @@ struct Nodes {
     transactions: usize,
     /// The ends of the lines begin here.
     ends: usize,
+    /// The barriers begin here.
+    barriers: usize,
     /// How many nodes there are.
     count: usize,
 }
 
 /// The nodes, unless there are too many.
-fn nodes_of(history: &[Transaction], survey: &Survey) -> Option<Nodes> {
+fn nodes_of(history: &[Transaction], survey: &Survey, orders: Orders<'_>) -> Option<Nodes> {
     let transactions = history.len();
     let ends = transactions.checked_mul(2)?;
-    let count = ends.checked_add(survey.count)?;
+    let barriers = ends.checked_add(survey.count)?;
     Some(Nodes {
         transactions,
         ends,
-        count,
+        barriers,
+        count: barriers.checked_add(orders.barriers)?,
     })
+}
+
+/// Which transactions come before others. A number after those of the transactions is that of a barrier, which comes
+/// after some and before others.
+#[derive(Clone, Copy)]
+pub struct Orders<'a> {
+    /// The first of each pair comes before the second.
+    pub before: &'a [(usize, usize)],
+    /// How many barriers there are.
+    pub barriers: usize,
+}
+
+/// The node at which the transaction or barrier is left.
+fn leaving(nodes: Nodes, number: usize) -> Option<usize> {
+    match number.checked_sub(nodes.transactions) {
+        Some(barrier) => nodes.barriers.checked_add(barrier),
+        None => commit_of(number),
+    }
+}
+
+/// The node at which it is entered.
+fn entering(nodes: Nodes, number: usize) -> Option<usize> {
+    match number.checked_sub(nodes.transactions) {
+        Some(barrier) => nodes.barriers.checked_add(barrier),
+        None => begin_of(number),
+    }
 }
 
 /// The begin of the transaction.
@@ -175,22 +238,31 @@ fn is_commit(nodes: Nodes, node: usize) -> bool {
     node < nodes.ends && node % 2 == 1
 }
 
-/// A snapshot run, or ties that leave none.
+/// A snapshot run that keeps the orders, or a cycle that leaves none.
 pub fn search_snapshots(
     alloc: Global,
     history: &[Transaction],
     survey: &Survey,
+    orders: Orders<'_>,
 ) -> Result<Found, NoMemory> {
-    let Some(nodes) = nodes_of(history, survey) else {
+    let Some(nodes) = nodes_of(history, survey, orders) else {
         return Ok(Found::Nothing);
     };
     let mut links = links_of(alloc, survey, nodes)?;
+    for (from, to) in orders.before {
+        add(
+            &mut links,
+            leaving(nodes, *from),
+            entering(nodes, *to),
+            before(),
+        )?;
+    }
     let sorted = match sorted_nodes(alloc, links.as_slice(), nodes.count)? {
         Some(Ok(sorted)) => sorted,
         Some(Err(cycle)) => {
             let turned = turned(alloc, cycle.as_slice(), nodes)?;
-            let ties = ties_of(alloc, survey, turned.as_slice())?;
-            return Ok(Found::Ties(ties));
+            let passages = passages_of(alloc, survey, turned.as_slice(), nodes.ends)?;
+            return Ok(Found::Cycle(passages));
         }
         None => return Ok(Found::Nothing),
     };
@@ -350,21 +422,30 @@ fn snapshots_of(
     nodes: Nodes,
     sorted: &[usize],
 ) -> Result<Snapshots, NoMemory> {
-    let mut begun = BTreeMap::new(alloc);
+    let mut begun = zeros(alloc, nodes.transactions)?;
     let mut order = Vec::new(alloc);
     let mut starts = Vec::new(alloc);
     for node in sorted {
         let number = *node / 2;
         if is_commit(nodes, *node) {
             if survey.takes_part(number) {
-                if let Some(start) = begun.get(&number).copied() {
+                if let Some(start) = begun.get(number).copied() {
                     order.push(number)?;
                     starts.push(start)?;
                 }
             }
-        } else if *node < nodes.ends {
-            begun.insert(number, order.len())?;
+        } else if let Some(start) = begun.get_mut(number) {
+            *start = order.len();
         }
     }
     Ok(Snapshots { order, starts })
+}
+
+/// A list of this many zeros.
+fn zeros(alloc: Global, len: usize) -> Result<Vec<usize>, NoMemory> {
+    let mut zeros = Vec::with_capacity(alloc, len)?;
+    for _ in 0..len {
+        zeros.push(0)?;
+    }
+    Ok(zeros)
 }

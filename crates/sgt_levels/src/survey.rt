@@ -8,7 +8,7 @@ use crate::tie::{Ground, Tie};
 use sgt_appends::{AppendIndex, Operation, Read, Status, Transaction, read_of};
 use sgt_model::NoMemory;
 use std::alloc::Global;
-use std::collections::{BTreeMap, BTreeSet};
+use std::collections::BTreeMap;
 
 /// The longest list of a key that a committed transaction saw.
 #[derive(Clone, Copy)]
@@ -46,8 +46,10 @@ pub struct Survey {
     lines: BTreeMap<u32, Line>,
     /// How many lines there are.
     pub count: usize,
-    /// The values that are in a line, with their keys.
-    seen: BTreeSet<(u32, u32)>,
+    /// For each operation, one transaction after another, whether it appends a value that is in a line.
+    seen: Vec<bool>,
+    /// For each transaction the place of its first operation there.
+    firsts: Vec<usize>,
     /// Which transactions take part: committed ones, and unknown ones of which a value was seen.
     pub runs: Vec<bool>,
     /// For a key and a transaction that appends to it a value that is in no line: the position of the first such append.
@@ -75,7 +77,8 @@ impl Survey {
         let mut survey = Survey {
             lines: BTreeMap::new(alloc),
             count: 0,
-            seen: BTreeSet::new(alloc),
+            seen: Vec::new(alloc),
+            firsts: Vec::new(alloc),
             runs: Vec::new(alloc),
             unseen: BTreeMap::new(alloc),
             whole: BTreeMap::new(alloc),
@@ -139,11 +142,15 @@ impl Survey {
     fn mark_all(&mut self, history: &[Transaction], appends: &AppendIndex) -> Result<(), NoMemory> {
         for transaction in history {
             self.runs.push(transaction.status == Status::Committed)?;
+            self.firsts.push(self.seen.len())?;
+            for _ in 0..transaction.operations.len() {
+                self.seen.push(false)?;
+            }
         }
         for number in 0..history.len() {
             for position in 0..length_of(history, number) {
                 if let Some(read) = read_of(history, number, position) {
-                    self.mark(appends, read)?;
+                    self.mark(appends, read);
                 }
             }
         }
@@ -158,20 +165,44 @@ impl Survey {
         }
     }
 
-    /// Marks the values of the line and their appenders, if the read is one.
-    fn mark(&mut self, appends: &AppendIndex, read: Read<'_>) -> Result<(), NoMemory> {
-        if !self.is_line(read) {
-            return Ok(());
+    /// Marks the append and its transaction.
+    fn mark_append(&mut self, by: usize, append: usize) {
+        if let Some(mark) = self.runs.get_mut(by) {
+            *mark = true;
         }
-        for value in read.seen {
-            self.seen.insert((read.key, *value))?;
-            if let Some((by, _)) = appends.find(read.key, *value) {
-                if let Some(mark) = self.runs.get_mut(by) {
-                    *mark = true;
-                }
+        if let Some(place) = self.place_of(by, append) {
+            if let Some(mark) = self.seen.get_mut(place) {
+                *mark = true;
             }
         }
-        Ok(())
+    }
+
+    /// The place of the operation among those of all transactions.
+    fn place_of(&self, number: usize, position: usize) -> Option<usize> {
+        self.firsts.get(number)?.checked_add(position)
+    }
+
+    /// Whether the operation appends a value that is in a line.
+    fn is_seen(&self, number: usize, position: usize) -> bool {
+        match self.place_of(number, position) {
+            Some(place) => match self.seen.get(place) {
+                Some(mark) => *mark,
+                None => false,
+            },
+            None => false,
+        }
+    }
+
+    /// Marks the values of the line and their appenders, if the read is one.
+    fn mark(&mut self, appends: &AppendIndex, read: Read<'_>) {
+        if !self.is_line(read) {
+            return;
+        }
+        for value in read.seen {
+            if let Some((by, append)) = appends.find(read.key, *value) {
+                self.mark_append(by, append);
+            }
+        }
     }
 
     /// Whether the transaction takes part.
@@ -193,8 +224,8 @@ impl Survey {
             return None;
         }
         match history.get(number)?.operations.get(position)? {
-            Operation::Append { key, value } => {
-                if self.seen.contains(&(*key, *value)) {
+            Operation::Append { key, .. } => {
+                if self.is_seen(number, position) {
                     return None;
                 }
                 Some(*key)

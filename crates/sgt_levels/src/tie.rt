@@ -53,6 +53,51 @@ pub struct Tie {
     pub ground: Ground,
 }
 
+/// A step of a cycle: a tie, or without a ground that the one comes before the other in an order that a run keeps.
+#[derive(Clone, Copy, Debug, PartialEq, Eq)]
+pub struct Passage {
+    pub from: usize,
+    pub to: usize,
+    pub ground: Option<Ground>,
+}
+
+/// Whether the passages are a cycle without two misses next to one another, and each holds that has a ground. It begins
+/// with one that is no miss.
+pub fn is_round(history: &[Transaction], passages: &[Passage]) -> bool {
+    let Some(first) = passages.first() else {
+        return false;
+    };
+    let start = first.from;
+    let mut at = start;
+    let mut waits = false;
+    for passage in passages {
+        if passage.from != at {
+            return false;
+        }
+        let Some(next) = pass(history, passage, waits) else {
+            return false;
+        };
+        waits = next;
+        at = passage.to;
+    }
+    at == start
+}
+
+/// Whether a miss may come after the passage, if it may come next. `waits` says whether the passage itself may be a miss.
+fn pass(history: &[Transaction], passage: &Passage, waits: bool) -> Option<bool> {
+    match passage.ground {
+        Some(ground) => {
+            let tie = Tie {
+                from: passage.from,
+                to: passage.to,
+                ground,
+            };
+            step(history, &tie, waits)
+        }
+        None => Some(true),
+    }
+}
+
 /// Whether the ties are a cycle that leaves no run of committed reads.
 pub fn rules_out_committed(history: &[Transaction], ties: &[Tie]) -> bool
     requires { AppendsOnce history.now }

@@ -98,7 +98,7 @@ fn are_unseen(history: &[Transaction], it: Unseen) -> bool
 }
 
 /// The key and the value of the append at the position, if the transaction committed.
-fn append_of(history: &[Transaction], number: usize, position: usize) -> Option<(u32, u32)>
+fn append_of(history: &[Transaction], number: usize, position: usize) -> Option<(u32, u64)>
     ensures ended { IfSome result (λ x. Ended history.now number Committed) }
     ensures at { IfSome result (λ x. AppendAt history.now number position x.0 x.1) }
 {
@@ -113,7 +113,7 @@ fn append_of(history: &[Transaction], number: usize, position: usize) -> Option<
 }
 
 /// Whether no committed transaction saw the value at the key.
-fn none_saw(history: &[Transaction], key: u32, value: u32) -> bool
+fn none_saw(history: &[Transaction], key: u32, value: u64) -> bool
     ensures { IsTrue result → NoneSaw history.now key value }
 {
     for number in 0..history.len() {
@@ -125,7 +125,7 @@ fn none_saw(history: &[Transaction], key: u32, value: u32) -> bool
 }
 
 /// Whether no read of the transaction saw the value at the key, if it committed.
-fn misses_in(history: &[Transaction], number: usize, key: u32, value: u32) -> bool
+fn misses_in(history: &[Transaction], number: usize, key: u32, value: u64) -> bool
     ensures { IsTrue result → MissesIn history.now key value number }
 {
     for position in 0..length_of(history, number) {
@@ -137,7 +137,7 @@ fn misses_in(history: &[Transaction], number: usize, key: u32, value: u32) -> bo
 }
 
 /// Whether the read at the position, if there is one, did not see the value at the key.
-fn misses_at(history: &[Transaction], number: usize, position: usize, key: u32, value: u32) -> bool
+fn misses_at(history: &[Transaction], number: usize, position: usize, key: u32, value: u64) -> bool
     ensures { IsTrue result → MissesAt history.now key value number position }
 {
     let Some(read) = read_of(history, number, position) else {

@@ -35,7 +35,7 @@ struct Longest {
 struct Written {
     /// Its position in the list.
     at: usize,
-    value: u32,
+    value: u64,
     /// The transaction that appends it, and the position of the append there.
     by: usize,
     append: usize,
@@ -46,7 +46,7 @@ struct Written {
 struct Notes {
     longest: BTreeMap<u32, Longest>,
     /// The values of these reads, with their keys.
-    seen: BTreeSet<(u32, u32)>,
+    seen: BTreeSet<(u32, u64)>,
     ties: Vec<Tie>,
 }
 
@@ -256,7 +256,7 @@ impl Notes {
     fn tie_append(
         &mut self,
         key: u32,
-        value: u32,
+        value: u64,
         number: usize,
         position: usize,
     ) -> Result<(), NoMemory> {
@@ -378,7 +378,7 @@ fn written_at(
     history: &[Transaction],
     appends: &AppendIndex,
     key: u32,
-    value: u32,
+    value: u64,
 ) -> Option<(usize, usize)> {
     let (number, position) = appends.find(key, value)?;
     if history.get(number)?.status != Status::Committed {

@@ -103,7 +103,7 @@ fn fits(
     appends: &AppendIndex,
     lists: &Columns,
     key: u32,
-    seen: &[u32],
+    seen: &[u64],
 ) -> bool
     requires { IsIndex history.now (position_of appends.now) }
     ensures { IsTrue result → AreFirst history.now key seen.now (values_in lists.now key) }
@@ -120,8 +120,8 @@ fn are_first(
     history: &[Transaction],
     appends: &AppendIndex,
     key: u32,
-    seen: &[u32],
-    list: &[u32],
+    seen: &[u64],
+    list: &[u64],
 ) -> bool
     requires { IsIndex history.now (position_of appends.now) }
     ensures { IsTrue result → AreFirst history.now key seen.now list.now }
@@ -142,8 +142,8 @@ fn next_place(
     history: &[Transaction],
     appends: &AppendIndex,
     key: u32,
-    value: u32,
-    list: &[u32],
+    value: u64,
+    list: &[u64],
     at: usize,
 ) -> Option<usize>
     requires index { IsIndex history.now (position_of appends.now) }
@@ -164,7 +164,7 @@ fn next_place(
 }
 
 /// Whether a committed transaction appends the value to the key.
-fn is_written(history: &[Transaction], appends: &AppendIndex, key: u32, value: u32) -> bool
+fn is_written(history: &[Transaction], appends: &AppendIndex, key: u32, value: u64) -> bool
     requires { IsIndex history.now (position_of appends.now) }
     ensures { (¬ IsTrue result) → ¬ IsWritten history.now key value }
 {

@@ -1,4 +1,5 @@
 //! Errors in the accounts of an opening, the first line of an input.
+use crate::column::{Place, placed};
 use crate::message::Message;
 use crate::typed::Typed;
 use serde_json::Value;
@@ -25,20 +26,32 @@ fn fault_after(typed: Typed<'_>, earlier: &[Value], account: &Value) -> Message 
     for (position, name) in NAMES.iter().enumerate() {
         if let Some(amount) = number_at(account, position) {
             if !is_value(amount) {
-                return Ok(Some(format!(in typed.alloc;
+                let text = format!(in typed.alloc;
                     "\"accounts\": the {name} of account {number} is {amount}, and has to be from {LEAST} to {MOST}"
-                )?));
+                )?;
+                return number_fault(typed, earlier, position, text);
             }
         }
     }
     for (position, name) in ["name", "customer"].iter().enumerate() {
         if let Some((amount, first)) = taken(earlier, account, position) {
-            return Ok(Some(format!(in typed.alloc;
+            let text = format!(in typed.alloc;
                 "\"accounts\": account {number} has the {name} {amount} of account {first}"
-            )?));
+            )?;
+            return number_fault(typed, earlier, position, text);
         }
     }
     Ok(None)
+}
+
+// What is said about the number at this position of the account after these, after its column.
+fn number_fault(typed: Typed<'_>, earlier: &[Value], position: usize, text: String) -> Message {
+    let positions = [earlier.len() as u64, position as u64];
+    placed(
+        typed,
+        Place::in_member("accounts", &positions),
+        Ok(Some(text)),
+    )
 }
 
 // The number at a position of an account that an earlier one has there too, and the index of that account.

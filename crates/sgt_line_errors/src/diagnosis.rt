@@ -6,7 +6,7 @@ use crate::command::Command;
 use crate::json_text::json_fault;
 use crate::message::{Message, words};
 use crate::record::record_fault;
-use crate::refusal::explain_opening;
+use crate::refusal::opening_refusal;
 use crate::request::{event_fault, job_fault};
 use crate::typed::Typed;
 use serde_json::Value;
@@ -29,16 +29,24 @@ pub fn diagnose(
 ) -> Result<Option<String>, NoMemory>
     ensures none { IfOk result (λ text. line_of fault.now ≡ None → text ≡ None) }
 {
-    let typed = Typed { alloc, text: line };
+    let typed = Typed {
+        alloc,
+        text: line,
+        shows_columns: true,
+    };
     match fault {
         Fault::NoOpening => words(typed, "the input is empty"),
+        Fault::LongLine(1) => words(
+            typed,
+            "a line has at most 65536 bytes: accounts may follow as lines, as [\"record\",0,1,101] for the customer 101 of name 1; 1 and 2 are the tables of saving and checking",
+        ),
         Fault::LongLine(_) => words(typed, "a line has at most 65536 bytes"),
-        Fault::NotJson(_) => json_fault(typed),
+        Fault::NotJson(number) => json_fault(typed, *number),
         Fault::BadLine(1)
         | Fault::BadLimits
         | Fault::BadOpening(_)
         | Fault::ProcShape(_, _)
-        | Fault::ProcFlaw(_, _) => explain_opening(alloc, least_live(command), line),
+        | Fault::ProcFlaw(_, _) => opening_refusal(typed, least_live(command)),
         Fault::BadLine(_) | Fault::BadRecord(_) => match read_tree(alloc, line)? {
             Some(tree) => tree_fault(typed, fault, command, &tree),
             None => Ok(None),

@@ -24,7 +24,8 @@ pub(crate) fn word_excerpt(typed: Typed<'_>, word: &str) -> Result<String, NoMem
     shortened(typed.alloc, tree.to_string(typed.alloc)?.as_str())
 }
 
-fn shortened(alloc: Global, text: &str) -> Result<String, NoMemory> {
+/// A text without spaces between its parts, as far as it is shown.
+pub(crate) fn shortened(alloc: Global, text: &str) -> Result<String, NoMemory> {
     let mut start = String::new(alloc);
     let mut follower = Follower::new();
     let mut count = 0;

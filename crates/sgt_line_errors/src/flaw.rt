@@ -1,40 +1,42 @@
 //! The flaws of a procedure in words.
-use crate::message::Message;
-use crate::search::Search;
 use crate::typed::Typed;
 use serde_json::Value;
-use sgt_format::items;
-use sgt_model::LAST_TABLE;
+use sgt_model::{LAST_TABLE, NoMemory};
 use sgt_proc::{
-    DEEPEST, Flaw, LAST_CODE, LAST_REGISTER, MOST_ANSWERS, MOST_ARGUMENTS, MOST_STATEMENTS,
+    DEEPEST, Flaw, FlawPlace, LAST_CODE, LAST_REGISTER, MOST_ANSWERS, MOST_ARGUMENTS,
+    MOST_STATEMENTS, check,
 };
+use sgt_proc_json::{ReadError, read};
 
-/// The first position of this flaw in a procedure, and what is wrong there, as `1 2 1: code 1000 is not from 1 to 999`.
-pub(crate) fn flaw_fault(typed: Typed<'_>, procedure: &Value, flaw: Flaw) -> Message {
-    let Some(arguments) = arguments_of(procedure) else {
+/// The first position of the least flaw of a procedure, and the position and what is wrong there in words, as
+/// `1 2 1: code 1000 is not from 1 to 999`.
+pub(crate) fn flaw_fault(
+    typed: Typed<'_>,
+    tree: &Value,
+) -> Result<Option<(Vec<u64>, String)>, NoMemory> {
+    let procedure = match read(typed.alloc, tree) {
+        Ok(procedure) => procedure,
+        Err(ReadError::Shape(_)) => return Ok(None),
+        Err(ReadError::NoMemory) => return Err(NoMemory),
+    };
+    let Err(flawed) = check(procedure) else {
         return Ok(None);
     };
-    let mut search = Search::new(typed.alloc, flaw, arguments);
-    let Some(number) = search.run(procedure)? else {
+    let Some(FlawPlace { place, number }) = flawed.place(typed.alloc)? else {
         return Ok(None);
     };
     let mut text = String::new(typed.alloc);
-    for (index, position) in search.place().iter().enumerate() {
+    for (index, position) in place.iter().enumerate() {
         let space = if index == 0 { "" } else { " " };
         text = format!(in typed.alloc; "{text}{space}{position}")?;
     }
-    let (before, following) = words_around(flaw);
+    let (before, following) = words_around(flawed.flaw);
     text = format!(in typed.alloc; "{text}: {before}{number}{following}")?;
-    if let Some(most) = most(flaw, arguments) {
-        let words = words_after_most(flaw);
+    if let Some(most) = most(flawed.flaw, i64::from(flawed.procedure.args)) {
+        let words = words_after_most(flawed.flaw);
         text = format!(in typed.alloc; "{text}{most}{words}")?;
     }
-    Ok(Some(text))
-}
-
-// How many arguments a procedure takes.
-fn arguments_of(procedure: &Value) -> Option<i64> {
-    items(procedure)?.first()?.as_i64()
+    Ok(Some((place, text)))
 }
 
 // The words before and after the number of a flaw.

@@ -22,24 +22,26 @@
 
 mod account;
 mod brackets;
+mod column;
 mod command;
 mod diagnosis;
 mod excerpt;
 mod explanation;
 mod flaw;
-mod flow;
+mod grammar;
 mod json_text;
 mod limit;
 mod message;
 mod newest;
 mod opening;
 mod part;
+mod reason;
 mod record;
 mod refusal;
 mod remembering;
 mod request;
-mod search;
 mod shape_error;
+mod token;
 mod tree;
 mod typed;
 

@@ -1,4 +1,5 @@
 //! Errors in the limits of an opening, the first line of an input.
+use crate::column::{Place, placed};
 use crate::message::Message;
 use crate::typed::Typed;
 use serde_json::Value;
@@ -13,9 +14,15 @@ pub(crate) fn limit_fault(typed: Typed<'_>, least: u32, limits: &[Value]) -> Mes
         let (first, last) = range(position);
         if number < first || last < number {
             let nth = ordinal(position);
-            return Ok(Some(format!(in typed.alloc;
+            let text = format!(in typed.alloc;
                 "\"limits\": the {nth} number is {number}, and has to be from {first} to {last}"
-            )?));
+            )?;
+            let positions = [position as u64];
+            return placed(
+                typed,
+                Place::in_member("limits", &positions),
+                Ok(Some(text)),
+            );
         }
     }
     worker_fault(typed, least, limits)
@@ -33,9 +40,12 @@ fn range(position: usize) -> (i64, i64) {
 // The message that fewer transactions may be live than there are workers.
 fn worker_fault(typed: Typed<'_>, least: u32, limits: &[Value]) -> Message {
     match live(limits) {
-        Some(live) if live < i64::from(least) => Ok(Some(format!(in typed.alloc;
-            "\"limits\": the first number is {live}, and the workers are {least}: more than transactions may be live; take fewer with --workers"
-        )?)),
+        Some(live) if live < i64::from(least) => {
+            let text = format!(in typed.alloc;
+                "\"limits\": the first number is {live}, and the workers are {least}: more than transactions may be live; take fewer with --workers"
+            )?;
+            placed(typed, Place::in_member("limits", &[0]), Ok(Some(text)))
+        }
         _ => Ok(None),
     }
 }

@@ -13,10 +13,10 @@ pub(crate) fn unexpected(typed: Typed<'_>, wanted: &str, tree: &Value) -> Messag
     Ok(Some(format!(in typed.alloc; "expected {wanted}, found {found}")?))
 }
 
-/// The message that nothing starts with this word.
-pub(crate) fn unknown(typed: Typed<'_>, word: &str) -> Message {
+/// The message that nothing starts with this word, and what it has to start with.
+pub(crate) fn unknown(typed: Typed<'_>, word: &str, known: &str) -> Message {
     let word = word_excerpt(typed, word)?;
-    Ok(Some(format!(in typed.alloc; "unknown word {word}")?))
+    Ok(Some(format!(in typed.alloc; "unknown word {word}: {known}")?))
 }
 
 /// A message that needs no part of the input.

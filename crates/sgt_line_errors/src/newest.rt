@@ -23,6 +23,8 @@ pub(crate) struct NewestLines {
     bytes: Vec<u8>,
     /// How many lines came before these bytes.
     dropped: u64,
+    /// Line 1, once that is dropped.
+    first: Vec<u8>,
 }
 
 impl NewestLines {
@@ -31,6 +33,7 @@ impl NewestLines {
         NewestLines {
             bytes: Vec::new(alloc),
             dropped: 0,
+            first: Vec::new(alloc),
         }
     }
 
@@ -41,34 +44,42 @@ impl NewestLines {
     /// `AllocError` if an allocation failed.
     pub(crate) fn store(&mut self, bytes: &[u8]) -> Result<(), AllocError> {
         if self.bytes.len() >= MOST_STORED {
-            self.drop_oldest();
+            self.drop_oldest()?;
         }
         self.bytes.extend_from_slice(bytes)
     }
 
-    /// The line of this number, from 1, without its newline, if its bytes are stored.
+    /// The line of this number, from 1, without its newline, if its bytes are stored. Line 1 always is.
     pub(crate) fn line(&self, number: u64) -> Option<&[u8]>
         ensures unbroken { IfSome result (λ l. has_break l.now ≡ false) }
     {
+        if number == 1 && self.dropped > 0 {
+            return line_in(self.first.as_slice(), 1);
+        }
         if number <= self.dropped {
             return None;
         }
         line_in(self.bytes.as_slice(), number - self.dropped)
     }
 
-    // Drops the lines that start before the bytes that stay.
-    fn drop_oldest(&mut self) {
+    // Drops the lines that start before the bytes that stay. Line 1 is stored apart, once it is dropped.
+    fn drop_oldest(&mut self) -> Result<(), AllocError> {
         let oldest = self.bytes.len().saturating_sub(LEAST_STORED);
         let Some(rest) = after_break(&self.bytes[oldest..]) else {
-            return;
+            return Ok(());
         };
         let end = self.bytes.len();
         let len = rest.len().min(end);
         let start = end - len;
         let count = count_breaks(&self.bytes[..start]) as u64;
+        if self.dropped == 0 {
+            self.first
+                .extend_from_slice(until_break(self.bytes.as_slice()))?;
+        }
         self.dropped = self.dropped.saturating_add(count);
         self.bytes.copy_within(start..end, 0);
         self.bytes.truncate(len);
+        Ok(())
     }
 }
 

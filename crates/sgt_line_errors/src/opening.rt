@@ -1,39 +1,61 @@
 //! Errors in an opening, the first line of an input.
 use crate::account::NAMES;
+use crate::column::{Place, placed};
 use crate::excerpt::{excerpt, word_excerpt};
 use crate::limit::ordinal;
-use crate::message::{Message, unexpected};
+use crate::message::{Message, unexpected, words};
 use crate::tree::first_not_whole;
 use crate::typed::Typed;
 use serde_json::Value;
 use sgt_format::items;
 
 /// The members of an opening.
-const MEMBERS: [&str; 3] = ["limits", "accounts", "procedures"];
+pub(crate) const MEMBERS: [&str; 3] = ["limits", "accounts", "procedures"];
 
 /// How an opening is written.
-const OPENING: &str = "an opening, as {\"limits\":[1,10],\"accounts\":[],\"procedures\":[]}";
+const OPENING: &str = "an opening, as {\"limits\":[16,1000,1],\"accounts\":[],\"procedures\":[]}";
+
+/// What is said of an entry of what clients saw.
+const IS_ENTRY: &str =
+    "an entry of what clients saw stands here: sgt check --model list-append reads it";
+
+/// What is said of records in an opening.
+const RECORDS: &str = ": records are lines after line 1, as [\"record\",3,1,7]";
+
+/// What is said of an account that is no list.
+const AN_ACCOUNT: &str = ": an account is a list in the list of accounts, as [[1,101,500,1000]]";
 
 /// Why a tree is no opening: the first error, in the order in which a run tests them.
 pub(crate) fn opening_fault(typed: Typed<'_>, tree: &Value) -> Message {
     if !tree.is_object() {
         return unexpected(typed, OPENING, tree);
     }
-    let unknown = match unknown_member(tree) {
-        Some(name) => Some(word_excerpt(typed, name)?),
-        None => None,
-    };
-    match (missing_member(tree), unknown) {
-        (Some(name), Some(unknown)) => Ok(Some(format!(in typed.alloc;
-            "the member \"{name}\" is missing, and {unknown} is unknown"
-        )?)),
+    if tree.get("type").is_some() && tree.get("process").is_some() {
+        return words(typed, IS_ENTRY);
+    }
+    match (missing_member(tree), unknown_member(tree)) {
+        (Some(name), Some(unknown)) => {
+            let (unknown, hint) = (word_excerpt(typed, unknown)?, hint_on(unknown));
+            Ok(Some(format!(in typed.alloc;
+                "the member \"{name}\" is missing, and {unknown} is unknown{hint}"
+            )?))
+        }
         (Some(name), None) => Ok(Some(format!(in typed.alloc;
             "the member \"{name}\" is missing"
         )?)),
-        (None, Some(unknown)) => Ok(Some(format!(in typed.alloc;
-            "the member {unknown} is unknown"
-        )?)),
+        (None, Some(unknown)) => {
+            let (unknown, hint) = (word_excerpt(typed, unknown)?, hint_on(unknown));
+            Ok(Some(format!(in typed.alloc; "the member {unknown} is unknown{hint}")?))
+        }
         (None, None) => shape_fault(typed, tree),
+    }
+}
+
+// What is said more of an unknown member.
+fn hint_on(name: &str) -> &'static str {
+    match name {
+        "record" | "records" => RECORDS,
+        _ => "",
     }
 }
 
@@ -69,9 +91,8 @@ fn shape_fault(typed: Typed<'_>, tree: &Value) -> Message {
         if let Some(member) = tree.get(name) {
             if items(member).is_none() {
                 let found = excerpt(typed, member)?;
-                return Ok(Some(format!(in typed.alloc;
-                    "\"{name}\": expected a list, found {found}"
-                )?));
+                let text = format!(in typed.alloc; "\"{name}\": expected a list, found {found}")?;
+                return placed(typed, Place::in_member(name, &[]), Ok(Some(text)));
             }
         }
     }
@@ -89,15 +110,22 @@ fn limits_fault(typed: Typed<'_>, limits: &Value) -> Message {
                 return Ok(None);
             };
             let (nth, found) = (ordinal(position), excerpt(typed, tree)?);
-            Ok(Some(format!(in typed.alloc;
+            let text = format!(in typed.alloc;
                 "\"limits\": expected a whole number as the {nth}, found {found}"
-            )?))
+            )?;
+            let positions = [position as u64];
+            placed(
+                typed,
+                Place::in_member("limits", &positions),
+                Ok(Some(text)),
+            )
         }
         _ => {
             let found = excerpt(typed, limits)?;
-            Ok(Some(format!(in typed.alloc;
+            let text = format!(in typed.alloc;
                 "\"limits\": expected a list of two or three whole numbers, found {found}"
-            )?))
+            )?;
+            placed(typed, Place::in_member("limits", &[]), Ok(Some(text)))
         }
     }
 }
@@ -105,7 +133,7 @@ fn limits_fault(typed: Typed<'_>, limits: &Value) -> Message {
 // The first shape error in the accounts. They are counted from 1.
 fn accounts_fault(typed: Typed<'_>, accounts: &[Value]) -> Message {
     for (index, account) in accounts.iter().enumerate() {
-        let fault = account_fault(typed, (index as u64).saturating_add(1), account)?;
+        let fault = account_fault(typed, index as u64, account)?;
         if fault.is_some() {
             return Ok(fault);
         }
@@ -113,23 +141,37 @@ fn accounts_fault(typed: Typed<'_>, accounts: &[Value]) -> Message {
     Ok(None)
 }
 
-// The shape error in the account of this number.
-fn account_fault(typed: Typed<'_>, number: u64, account: &Value) -> Message {
+// The shape error in the account at this index.
+fn account_fault(typed: Typed<'_>, index: u64, account: &Value) -> Message {
+    let number = index.saturating_add(1);
     match items(account) {
         Some(numbers) if numbers.len() == 4 => {
             let Some((position, tree)) = first_not_whole(numbers) else {
                 return Ok(None);
             };
             let (name, found) = (NAMES[position.min(3)], excerpt(typed, tree)?);
-            Ok(Some(format!(in typed.alloc;
+            let text = format!(in typed.alloc;
                 "\"accounts\": expected a whole number as the {name} of account {number}, found {found}"
-            )?))
+            )?;
+            let positions = [index, position as u64];
+            placed(
+                typed,
+                Place::in_member("accounts", &positions),
+                Ok(Some(text)),
+            )
         }
-        _ => {
+        other => {
             let found = excerpt(typed, account)?;
-            Ok(Some(format!(in typed.alloc;
-                "\"accounts\": expected [name,customer,saving,checking] as account {number}, found {found}"
-            )?))
+            let rule = if other.is_none() { AN_ACCOUNT } else { "" };
+            let text = format!(in typed.alloc;
+                "\"accounts\": expected [name,customer,saving,checking] as account {number}, found {found}{rule}"
+            )?;
+            let positions = [index];
+            placed(
+                typed,
+                Place::in_member("accounts", &positions),
+                Ok(Some(text)),
+            )
         }
     }
 }

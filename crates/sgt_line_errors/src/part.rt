@@ -26,9 +26,7 @@ impl Part {
     /// What may be at a position of such a list, which starts with this word, if it starts with one.
     pub(crate) fn at(self, word: Option<&str>, position: usize) -> Option<Part> {
         match (self, position) {
-            (Part::Procedure, 0) => Some(Part::Arguments),
-            (Part::Procedure, 1) => Some(Part::Block),
-            (Part::Procedure, _) => None,
+            (Part::Procedure, _) => Some(*PROCEDURE.get(position)?),
             (Part::Block, _) => Some(Part::Statement),
             _ => Some(*self.following(word?)?.get(position.checked_sub(1)?)?),
         }
@@ -56,6 +54,34 @@ impl Part {
     /// Its description in words.
     pub(crate) fn words(self) -> &'static str {
         self.names().1
+    }
+
+    /// The words with which a list starts that is this, if this is such a list.
+    pub(crate) fn starts(self) -> &'static str {
+        match self {
+            Part::Statement =>
+                "a statement starts with look, find, put, remove, let, ask, if or answer",
+            Part::Condition => "a condition starts with less (<), most (<=) or same (=)",
+            Part::Expression =>
+                "an expression starts with arg, reg, sum, diff, product or quotient",
+            _ => "",
+        }
+    }
+
+    /// What this is, if it is or may be a list that starts with a word.
+    pub(crate) fn rule(self) -> Option<&'static str> {
+        match self {
+            Part::Statement => Some(
+                "a statement is a list that starts with its word, as [\"ask\",7]",
+            ),
+            Part::Condition => Some(
+                "a condition is a list that starts with its word, as [\"less\",1,2]",
+            ),
+            Part::Expression => Some(
+                "an expression is a whole number, or a list that starts with its word, as [\"arg\",0]",
+            ),
+            _ => None,
+        }
     }
 
     // Its name in such a list, and its description.
@@ -93,6 +119,9 @@ pub(crate) fn row(word: &str) -> Option<(Part, &'static [Part])> {
         _ => None,
     }
 }
+
+/// What a procedure is made of.
+pub(crate) const PROCEDURE: &[Part] = &[Part::Arguments, Part::Block];
 
 const LOOK: &[Part] = &[Part::Register, Part::Table, Part::Expression, Part::Code];
 

@@ -1,4 +1,5 @@
 //! Errors in a record line.
+use crate::column::{Place, placed};
 use crate::message::Message;
 use crate::typed::Typed;
 use serde_json::Value;
@@ -20,15 +21,16 @@ pub(crate) fn record_fault(typed: Typed<'_>, tree: &Value) -> Message {
         return Ok(None);
     };
     let ranges = [
-        ("table", table, 0, i64::from(LAST_TABLE)),
-        ("number", number, LEAST, MOST),
-        ("value", value, LEAST, MOST),
+        (1, "table", table, 0, i64::from(LAST_TABLE)),
+        (2, "number", number, LEAST, MOST),
+        (3, "value", value, LEAST, MOST),
     ];
-    for (name, given, first, last) in ranges.iter() {
+    for (position, name, given, first, last) in ranges.iter() {
         if *given < *first || *last < *given {
-            return Ok(Some(format!(in typed.alloc;
+            let text = format!(in typed.alloc;
                 "the {name} is {given}, and has to be from {first} to {last}"
-            )?));
+            )?;
+            return placed(typed, Place::in_list(&[*position]), Ok(Some(text)));
         }
     }
     Ok(Some(format!(in typed.alloc; "record {table}/{number} is there already")?))

@@ -4,6 +4,7 @@ ghost use Rattle.sgt_format.specs.declared.errors.OpeningError.{OpeningError};
 ghost use Rattle.sgt_line_errors.specs.Refusals.{SpellsNoOpening, SpellsNoProcedure};
 
 use crate::account::account_fault;
+use crate::column::{Place, placed};
 use crate::flaw::flaw_fault;
 use crate::json_text::json_fault;
 use crate::limit::limit_fault;
@@ -30,12 +31,20 @@ pub fn explain_opening(
 ) -> Result<Option<String>, NoMemory>
     ensures refused { IfOk result (λ text. IsSome text → SpellsNoOpening least opening.now) }
 {
-    let Err(error) = read_opening(alloc, least, opening) else {
-        return Ok(None);
-    };
     let typed = Typed {
         alloc,
         text: opening,
+        shows_columns: false,
+    };
+    opening_refusal(typed, least)
+}
+
+/// The same of the text from which messages show parts.
+pub(crate) fn opening_refusal(typed: Typed<'_>, least: u32) -> Message
+    ensures refused { IfOk result (λ text. IsSome text → SpellsNoOpening least typed.entry.text.now) }
+{
+    let Err(error) = read_opening(typed.alloc, least, typed.text) else {
+        return Ok(None);
     };
     explained(typed, &error, Some(least))
 }
@@ -59,6 +68,7 @@ pub fn explain_procedure(
     let typed = Typed {
         alloc,
         text: procedure,
+        shows_columns: false,
     };
     explained(typed, &error, None)
 }
@@ -69,7 +79,7 @@ fn explained(typed: Typed<'_>, error: &OpeningError, least: Option<u32>) -> Mess
 {
     match error {
         OpeningError::NoMemory => Err(NoMemory),
-        OpeningError::NotJson => json_fault(typed),
+        OpeningError::NotJson => json_fault(typed, u64::from(least.is_some())),
         _ => match (read_tree(typed.alloc, typed.text)?, least) {
             (Some(tree), Some(least)) => opening_tree_fault(typed, error, least, &tree),
             (Some(tree), None) => procedure_fault(typed, error, &tree),
@@ -104,18 +114,34 @@ fn procedure_fault(typed: Typed<'_>, error: &OpeningError, procedure: &Value) ->
     match error {
         OpeningError::ProcShape(number, place) => {
             match shape_error(typed, procedure, place.as_slice())? {
-                Some(what) => Ok(Some(format!(in typed.alloc;
-                    "procedure {number}, at {place}: {what}"
-                )?)),
+                Some(what) => {
+                    let text = format!(in typed.alloc; "procedure {number}, at {place}: {what}")?;
+                    placed_in(typed, *number, place.as_slice(), text)
+                }
                 None => Ok(None),
             }
         }
-        OpeningError::ProcFlaw(number, flaw) => match flaw_fault(typed, procedure, *flaw)? {
-            Some(what) => Ok(Some(format!(in typed.alloc; "procedure {number}, at {what}")?)),
+        OpeningError::ProcFlaw(number, _) => match flaw_fault(typed, procedure)? {
+            Some((place, what)) => {
+                let text = format!(in typed.alloc; "procedure {number}, at {what}")?;
+                placed_in(typed, *number, place.as_slice(), text)
+            }
             None => Ok(None),
         },
         _ => Ok(None),
     }
+}
+
+// What is said about a place of the opening's procedure of this number, after its column.
+fn placed_in(typed: Typed<'_>, number: u64, place: &[u64], text: String) -> Message {
+    let mut positions = Vec::new(typed.alloc);
+    positions.push(number.saturating_sub(u64::from(PROCEDURES)))?;
+    positions.extend_from_slice(place)?;
+    placed(
+        typed,
+        Place::in_member("procedures", positions.as_slice()),
+        Ok(Some(text)),
+    )
 }
 
 // The items of a member of an object, or none.

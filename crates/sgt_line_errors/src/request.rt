@@ -1,4 +1,5 @@
 //! Errors in the line of an event or of a job.
+use crate::column::{Place, placed};
 use crate::excerpt::excerpt;
 use crate::message::{Message, unexpected, unknown};
 use crate::record::numbers;
@@ -21,6 +22,18 @@ const RECORD: &str = "[\"record\",table,number,value]";
 /// The form of a write.
 const WRITE: &str = "[\"write\",transaction,table,number,value]";
 
+/// The words with which a line of a script starts.
+const LINES: &str =
+    "a line starts with start, step, commit, quit (abort), begin, read, write, remove or cut; before the first of these, with record";
+
+/// The words with which a line of a bank starts.
+const JOBS: &str =
+    "a job is [\"job\",procedure,[argument,..]]; before the first job, a line may start with record";
+
+/// What is said of a procedure that is named by a text.
+const BY_NUMBER: &str =
+    ": a procedure is named by its number, and those of line 1 are numbered from 5";
+
 /// Why a tree is no event of a script.
 pub(crate) fn event_fault(typed: Typed<'_>, tree: &Value) -> Message {
     match word_in(tree) {
@@ -39,7 +52,7 @@ pub(crate) fn event_fault(typed: Typed<'_>, tree: &Value) -> Message {
             "a job stands in the input of \"sgt script\", which takes events: ",
             START,
         ),
-        Some(word) => unknown(typed, word),
+        Some(word) => unknown(typed, word, LINES),
         None => unexpected(typed, "an event, as [\"step\",0]", tree),
     }
 }
@@ -56,7 +69,7 @@ pub(crate) fn job_fault(typed: Typed<'_>, tree: &Value) -> Message {
             "an event stands in the input of \"sgt bank\", which takes jobs: ",
             JOB,
         ),
-        Some(word) => unknown(typed, word),
+        Some(word) => unknown(typed, word, JOBS),
         None => unexpected(typed, "a job, as [\"job\",0,[1]]", tree),
     }
 }
@@ -71,23 +84,27 @@ fn misplaced_request(typed: Typed<'_>, words: &str, form: &str) -> Message {
     Ok(Some(format!(in typed.alloc; "{words}{form}")?))
 }
 
-// Why a list that starts with the word of a record adds none: its form, or that records must come before the first of
-// these.
+// Why a list that starts with the word of a record adds none: its form, its first part that is wrong, or that records
+// must come before the first of these.
 fn misplaced_record(typed: Typed<'_>, first: &str, tree: &Value) -> Message {
-    match numbers(tree) {
-        Some(_) => Ok(Some(format!(in typed.alloc; "records stand before the first {first}")?)),
-        None => unexpected(typed, RECORD, tree),
+    match (numbers(tree), items(tree)) {
+        (Some(_), _) => Ok(Some(format!(in typed.alloc;
+            "records stand before the first {first}"
+        )?)),
+        (None, Some([_, table, number, value])) => {
+            match key_part_fault(typed, 1, table, number)? {
+                Some(text) => Ok(Some(text)),
+                None => value_fault(typed, 3, value),
+            }
+        }
+        _ => unexpected(typed, RECORD, tree),
     }
 }
 
 // The error of a list that must be a word and a transaction, in this form.
 fn transaction_fault(typed: Typed<'_>, form: &str, tree: &Value) -> Message {
     match items(tree) {
-        Some([_, number]) => if is_from_zero(number, u32::MAX) {
-            Ok(None)
-        } else {
-            range_fault(typed, "a transaction", number, u32::MAX)
-        },
+        Some([_, number]) => transaction_part_fault(typed, number),
         _ => unexpected(typed, form, tree),
     }
 }
@@ -105,37 +122,55 @@ fn write_fault(typed: Typed<'_>, tree: &Value) -> Message {
     match items(tree) {
         Some([_, number, table, id, value]) => match access_fault(typed, number, table, id)? {
             Some(text) => Ok(Some(text)),
-            None => value_fault(typed, value),
+            None => value_fault(typed, 4, value),
         },
         _ => unexpected(typed, WRITE, tree),
     }
 }
 
-// The error in a transaction, or in the table or the number of a record. A number is a value.
+// The error in a transaction, or in the table or the number of a record.
 fn access_fault(typed: Typed<'_>, number: &Value, table: &Value, id: &Value) -> Message {
-    let last = u32::from(LAST_TABLE);
-    if !is_from_zero(number, u32::MAX) {
-        return range_fault(typed, "a transaction", number, u32::MAX);
-    }
-    if !is_from_zero(table, last) {
-        return range_fault(typed, "a table", table, last);
-    }
-    match id.as_i64() {
-        Some(found) if is_value(found) => Ok(None),
-        _ => unexpected(typed, "a number of at most 15 digits", id),
+    match transaction_part_fault(typed, number)? {
+        Some(text) => Ok(Some(text)),
+        None => key_part_fault(typed, 2, table, id),
     }
 }
 
-// The error in the value of a write. What is out of a value's range is answered, as an argument is.
-fn value_fault(typed: Typed<'_>, value: &Value) -> Message {
+// The error in the number of a transaction, which comes after the word.
+fn transaction_part_fault(typed: Typed<'_>, number: &Value) -> Message {
+    if is_from_zero(number, u32::MAX) {
+        return Ok(None);
+    }
+    range_fault(typed, 1, "a transaction", number, u32::MAX)
+}
+
+// The error in the table or the number of a record. The table is at this position. A number is a value.
+fn key_part_fault(typed: Typed<'_>, position: u64, table: &Value, id: &Value) -> Message {
+    let last = u32::from(LAST_TABLE);
+    if !is_from_zero(table, last) {
+        return range_fault(typed, position, "a table", table, last);
+    }
+    match id.as_i64() {
+        Some(found) if is_value(found) => Ok(None),
+        _ => whole_fault(typed, &[position.saturating_add(1)], "the number", id),
+    }
+}
+
+// The error in a value at this position. What is out of a value's range is no error of the line.
+fn value_fault(typed: Typed<'_>, position: u64, value: &Value) -> Message {
     match value.as_i64() {
         Some(_) => Ok(None),
-        None => unexpected(
-            typed,
-            "a whole number of at most 15 digits as the value",
-            value,
-        ),
+        None => whole_fault(typed, &[position], "the value", value),
     }
+}
+
+// The message that the part at these positions, which has this name, is no whole number of so many digits.
+fn whole_fault(typed: Typed<'_>, positions: &[u64], name: &str, tree: &Value) -> Message {
+    let found = excerpt(typed, tree)?;
+    let text = format!(in typed.alloc;
+        "expected a whole number of at most 15 digits as {name}, found {found}"
+    )?;
+    placed(typed, Place::in_list(positions), Ok(Some(text)))
 }
 
 // The error of a list that must be a word, a procedure and its arguments, in this form.
@@ -145,9 +180,17 @@ fn call_fault(typed: Typed<'_>, form: &str, tree: &Value) -> Message {
         Some([_, number, arguments]) => if is_from_zero(number, last) {
             arguments_fault(typed, arguments)
         } else {
-            range_fault(typed, "a procedure", number, last)
+            procedure_fault(typed, number, last)
         },
         _ => unexpected(typed, form, tree),
+    }
+}
+
+// The message that a tree is no procedure from 0 to `last`.
+fn procedure_fault(typed: Typed<'_>, tree: &Value, last: u32) -> Message {
+    match range_fault(typed, 1, "a procedure", tree, last)? {
+        Some(text) if tree.is_string() => Ok(Some(format!(in typed.alloc; "{text}{BY_NUMBER}")?)),
+        text => Ok(text),
     }
 }
 
@@ -159,28 +202,29 @@ fn is_from_zero(tree: &Value, last: u32) -> bool {
     }
 }
 
-// The message that a tree is no whole number from 0 to `last`.
-fn range_fault(typed: Typed<'_>, name: &str, tree: &Value, last: u32) -> Message {
+// The message that the tree at this position is no whole number from 0 to `last`.
+fn range_fault(typed: Typed<'_>, position: u64, name: &str, tree: &Value, last: u32) -> Message {
     let found = excerpt(typed, tree)?;
-    Ok(Some(format!(in typed.alloc; "expected {name} from 0 to {last}, found {found}")?))
+    let text = format!(in typed.alloc; "expected {name} from 0 to {last}, found {found}")?;
+    placed(typed, Place::in_list(&[position]), Ok(Some(text)))
 }
 
 // The error in the arguments of a call. They are numbered from 0.
 fn arguments_fault(typed: Typed<'_>, tree: &Value) -> Message {
     let Some(arguments) = items(tree) else {
-        return unexpected(typed, "a list of arguments", tree);
+        let message = unexpected(typed, "a list of arguments", tree);
+        return placed(typed, Place::in_list(&[2]), message);
     };
     let count = arguments.len();
     if count > usize::from(MOST_ARGUMENTS) {
-        return Ok(Some(format!(in typed.alloc;
+        let text = format!(in typed.alloc;
             "{count} arguments are given, and at most {MOST_ARGUMENTS} may be"
-        )?));
+        )?;
+        return placed(typed, Place::in_list(&[2]), Ok(Some(text)));
     }
     let Some((number, argument)) = first_not_whole(arguments) else {
         return Ok(None);
     };
-    let found = excerpt(typed, argument)?;
-    Ok(Some(format!(in typed.alloc;
-        "expected a whole number of at most 15 digits as argument {number}, found {found}"
-    )?))
+    let name = format!(in typed.alloc; "argument {number}")?;
+    whole_fault(typed, &[2, number as u64], name.as_str(), argument)
 }

@@ -9,6 +9,8 @@ use std::alloc::Global;
 pub(crate) struct Typed<'a> {
     pub alloc: Global,
     pub text: &'a [u8],
+    /// Whether messages say at which column a part begins. A text that a program has made is seen by nobody.
+    pub shows_columns: bool,
 }
 
 impl<'a> Typed<'a> {

@@ -242,11 +242,7 @@ impl History {
             (Event::Access(t, request), ShortReply::Wrote { key, value }) => {
                 self.push_access(*t, request, StoredReply::wrote(key, value))
             }
-            // Only copies are passed, so the originals need not be written to memory.
-            _ => {
-                let short = *reply;
-                self.push_any(&event.copied(), &short, lists)
-            }
+            _ => self.push_any(event, reply, lists),
         }
     }
 

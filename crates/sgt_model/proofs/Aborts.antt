@@ -10,7 +10,8 @@ use Rattle.sgt_model.specs.Legality.{Legal}
 use Rattle.sgt_model.specs.Aborts.{ReplyIsJustified, AbortsHaveCause}
 use Rattle.sgt_model.proofs.Effects.{ends_none-cause, Effect, idle, begins, accesses, commits, undoes, refuses, effect}
 
-abort_has_cause : {s : Configuration} {past : List Entry} {event : Event} {r : Reply} → Effect s past event r → ReplyIsJustified s past event r
+abort_has_cause : {s : Configuration} {past : List Entry} {event : Event} {r : Reply} → Effect s past event r
+    → ReplyIsJustified s past event r
 abort_has_cause {s} {past} {event} {r} (idle i) = ends_none-cause s past event r i.ends_none
 abort_has_cause {s} {past} {event} {r} (begins b) = subst (λ x. ReplyIsJustified s past event x) (sym b.reply_is) tt
 abort_has_cause {s} {past} {event} {r} (accesses x) = ends_none-cause s past event r x.ends_none

@@ -40,7 +40,8 @@ DoneWith result answers m = (last : Contents) × (result ≡ Done answers last) 
 pub record ActsLaw (r : Run) : Type 0 where
   pub done : (m : Contents) (all : List Access) (answers : List ℤ) → AsRequested (requests_of r) all → FindsIn m all
       → requests_of r (values_read all) (length all) ≡ Ends answers → DoneWith (serial r m) answers (over m all)
-  pub raised : (m : Contents) (all : List Access) (code : ℕ) → AsRequested (requests_of r) all → FindsIn m all → requests_of r (values_read all)
+  pub raised : (m : Contents) (all : List Access) (code : ℕ) → AsRequested (requests_of r) all → FindsIn m all
+      → requests_of r (values_read all)
       (length all) ≡ Raises code → serial r m ≡ Asked code
 
 -- ---- after the end

@@ -71,11 +71,17 @@ committed_admitted s (e ∷ past) h = by_end (committed_admitted s past h.0) (co
     by_end before (inl c) =
         let who : subject e.event ≡ c.t = ap subject c.event_is in
         let admitted = started_admitted s past c.t h.0 (live-started past c.t c.is_live) in
-        subst (λ r. AreAdmitted s (reported_call_in past e.event r ++ reported_calls past)) (sym c.reply_is)
-        (before, subst (λ u. IsAdmitted s (with_caller_accesses (caller_accesses past u) (call_of past u))) (sym who) (requested_too admitted))
+        subst (λ r. AreAdmitted s (reported_call_in past e.event r ++ reported_calls past)) (sym c.reply_is) (
+          before,
+          subst (λ u. IsAdmitted s (with_caller_accesses (caller_accesses past u) (call_of past u))) (sym who)
+              (requested_too admitted),
+        )
     by_end before (inr (inl x)) =
         let who : subject e.event ≡ x.undoing.t = ap subject x.event_is in
         let admitted = started_admitted s past x.undoing.t h.0 (live-started past x.undoing.t x.undoing.is_live) in
-        subst (λ r. AreAdmitted s (reported_call_in past e.event r ++ reported_calls past)) (sym x.reply_is)
-        (before, subst (λ u. IsAdmitted s (with_caller_accesses (caller_accesses past u) (call_of past u))) (sym who) (requested_too admitted))
+        subst (λ r. AreAdmitted s (reported_call_in past e.event r ++ reported_calls past)) (sym x.reply_is) (
+          before,
+          subst (λ u. IsAdmitted s (with_caller_accesses (caller_accesses past u) (call_of past u))) (sym who)
+              (requested_too admitted),
+        )
     by_end before (inr (inr quiet)) = subst (λ l. AreAdmitted s (l ++ reported_calls past)) (sym quiet.no_call) before

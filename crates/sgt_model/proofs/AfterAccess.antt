@@ -125,7 +125,8 @@ module _ (s : Configuration) (past : List Entry) (h : Legal s past) (before afte
       ≡ left.after_look v (left_of s.rules past t)
 
   abbrev pub StoreGoes : Type 0
-  StoreGoes = left_after (left_of_call s.rules (call_of past t)) (reads past t) (suc (made past t)) ≡ left.after_store (left_of s.rules past t)
+  StoreGoes = left_after (left_of_call s.rules (call_of past t)) (reads past t) (suc (made past t))
+      ≡ left.after_store (left_of s.rules past t)
 
   pub after_look : LookGoes → LooksAt t k before after → IsStateAfter s (look_entry t k (found before k) ∷ past) after
   after_look goes l = record {
@@ -258,12 +259,22 @@ look_requested s past t d k v c x = record {
     (λ q. let r = p.0 q in record {
       first_live = r.first_live;
       second_live = r.second_live;
-      pair = record { apart = r.pair.apart; first_stands = r.pair.first_stands; second_stands = r.pair.second_stands; precedes = r.pair.precedes };
+      pair = record {
+        apart = r.pair.apart;
+        first_stands = r.pair.first_stands;
+        second_stands = r.pair.second_stands;
+        precedes = r.pair.precedes;
+      };
     }),
     (λ r. p.1 (record {
       first_live = r.first_live;
       second_live = r.second_live;
-      pair = record { apart = r.pair.apart; first_stands = r.pair.first_stands; second_stands = r.pair.second_stands; precedes = r.pair.precedes };
+      pair = record {
+        apart = r.pair.apart;
+        first_stands = r.pair.first_stands;
+        second_stands = r.pair.second_stands;
+        precedes = r.pair.precedes;
+      };
     })),
   );
   accesses = x.accesses;
@@ -287,12 +298,22 @@ store_requested s past t d k v c x = record {
     (λ q. let r = p.0 q in record {
       first_live = r.first_live;
       second_live = r.second_live;
-      pair = record { apart = r.pair.apart; first_stands = r.pair.first_stands; second_stands = r.pair.second_stands; precedes = r.pair.precedes };
+      pair = record {
+        apart = r.pair.apart;
+        first_stands = r.pair.first_stands;
+        second_stands = r.pair.second_stands;
+        precedes = r.pair.precedes;
+      };
     }),
     (λ r. p.1 (record {
       first_live = r.first_live;
       second_live = r.second_live;
-      pair = record { apart = r.pair.apart; first_stands = r.pair.first_stands; second_stands = r.pair.second_stands; precedes = r.pair.precedes };
+      pair = record {
+        apart = r.pair.apart;
+        first_stands = r.pair.first_stands;
+        second_stands = r.pair.second_stands;
+        precedes = r.pair.precedes;
+      };
     })),
   );
   accesses = x.accesses;

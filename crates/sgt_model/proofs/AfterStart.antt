@@ -164,11 +164,13 @@ module _ (s : Configuration) (past : List Entry) (h : Legal s past) (p : ℕ) (a
           (sym call))
       still_left u l (inr le) =
           let is : u ≡ start_count past = at_end (live-started (start_entry p args (start_count past) ∷ past) u l) le in
-          let call : call_of (start_entry p args (start_count past) ∷ past) u ≡ record { procedure = p; args = args; caller_accesses = [] } =
+          let call : call_of (start_entry p args (start_count past) ∷ past) u
+          ≡ record { procedure = p; args = args; caller_accesses = [] } =
           own_call (nat_eq (start_count past) u) (record { procedure = p; args = args; caller_accesses = [] }) (call_of past u)
           (eq-eqb (start_count past) u (sym is)) in
           let unused = acts_unstarted s past u h le in
-          ap after.left (is ∙ sym i.start_count) ∙ (x.own_left ∙ (ap (left_by s (record { procedure = p; args = args; caller_accesses = [] })) (sym unused)
+          ap after.left (is ∙ sym i.start_count) ∙ (x.own_left
+          ∙ (ap (left_by s (record { procedure = p; args = args; caller_accesses = [] })) (sym unused)
           ∙ ap (λ c. left_by s c (acts past u)) (sym call)))
         where
           at_end : u < start_count past + 1 → start_count past ≤ u → u ≡ start_count past

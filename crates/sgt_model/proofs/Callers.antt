@@ -185,7 +185,8 @@ made_decided s c past (Step u) r a legal is made h ih =
     (λ answers e. not_fit _ a answers e made) in
     subst (λ xs. NewestDecided c xs (a ∷ acts past a.by)) (sym only.2) tt
 made_decided s c past (event.Access u d) r a legal is made h ih =
-    subst (λ b. NewestDecided c (cond b (caller_access_of a ∷ []) [] ++ caller_accesses past a.by) (a ∷ acts past a.by)) (sym (eq-eqb a.by a.by refl))
+    subst (λ b. NewestDecided c (cond b (caller_access_of a ∷ []) [] ++ caller_accesses past a.by) (a ∷ acts past a.by))
+    (sym (eq-eqb a.by a.by refl))
     (ih, (d, decided_at c past u d r a is h, made.3))
 made_decided s c past (Start p args) r a legal is made h ih = absurd made
 made_decided s c past (Commit u) r a legal is made h ih = absurd made
@@ -196,14 +197,18 @@ newest_decided : (s : Configuration) (c : Caller) (past : List Entry) (t : ℕ) 
 newest_decided s c [] t legal h = tt
 newest_decided s c (e ∷ past) t legal h = by_access (newest_decided s c past t legal.0 h.0) (access_of e) refl
   where
-    xs_are : (x : Option Access) → access_of e ≡ x → (l : List CallerAccess) → caller_access_if e.event x t ≡ l → caller_accesses (e ∷ past) t ≡ l ++ caller_accesses past t
-    xs_are x is l same = ap (λ z. z ++ caller_accesses past t) (caller_access_in-is e.event e.reply t ∙ (ap (λ y. caller_access_if e.event y t) is ∙ same))
+    xs_are : (x : Option Access) → access_of e ≡ x → (l : List CallerAccess) → caller_access_if e.event x t ≡ l
+        → caller_accesses (e ∷ past) t ≡ l ++ caller_accesses past t
+    xs_are x is l same = ap (λ z. z ++ caller_accesses past t)
+        (caller_access_in-is e.event e.reply t ∙ (ap (λ y. caller_access_if e.event y t) is ∙ same))
 
-    kept : NewestDecided c (caller_accesses past t) (acts past t) → (x : Option Access) → access_of e ≡ x → caller_access_if e.event x t ≡ [] → act_in (access_of e) t (acts past t) ≡ acts past t
+    kept : NewestDecided c (caller_accesses past t) (acts past t) → (x : Option Access) → access_of e ≡ x
+        → caller_access_if e.event x t ≡ [] → act_in (access_of e) t (acts past t) ≡ acts past t
         → NewestDecided c (caller_accesses (e ∷ past) t) (acts (e ∷ past) t)
     kept before x is none same = subst₂ (λ xs l. NewestDecided c xs l) (sym (xs_are x is [] none)) (sym same) before
 
-    own : NewestDecided c (caller_accesses past t) (acts past t) → (a : Access) → access_of e ≡ Some a → a.by ≡ t → NewestDecided c (caller_accesses (e ∷ past) t) (acts (e ∷ past) t)
+    own : NewestDecided c (caller_accesses past t) (acts past t) → (a : Access) → access_of e ≡ Some a → a.by ≡ t
+        → NewestDecided c (caller_accesses (e ∷ past) t) (acts (e ∷ past) t)
     own before a is z =
         subst₂ (λ xs l. NewestDecided c xs l) (sym (xs_are (Some a) is (caller_access_if e.event (Some a) t) refl))
         (sym (act_own (access_of e) a t (acts past t) is z))
@@ -212,10 +217,12 @@ newest_decided s c (e ∷ past) t legal h = by_access (newest_decided s c past t
         (subst (λ u. AsDecided c u past e.event e.reply) (sym z) h.1)
         (subst (λ u. NewestDecided c (caller_accesses past u) (acts past u)) (sym z) before)))
 
-    by_access : NewestDecided c (caller_accesses past t) (acts past t) → (x : Option Access) → access_of e ≡ x → NewestDecided c (caller_accesses (e ∷ past) t) (acts (e ∷ past) t)
+    by_access : NewestDecided c (caller_accesses past t) (acts past t) → (x : Option Access) → access_of e ≡ x
+        → NewestDecided c (caller_accesses (e ∷ past) t) (acts (e ∷ past) t)
     by_access before None is = kept before None is (caller_access_if-none e.event t) (act_none (access_of e) t (acts past t) is)
     by_access before (Some a) is = ⊎_elim (λ z. own before a is z)
-        (λ z. kept before (Some a) is (caller_access_if-other e.event a t z) (act_other (access_of e) a t (acts past t) is z)) (cases_eq a.by t)
+        (λ z. kept before (Some a) is (caller_access_if-other e.event a t z) (act_other (access_of e) a t (acts past t) is z))
+        (cases_eq a.by t)
 
 split_decided : (c : Caller) (more own : List Access) → NewestDecided c (map caller_access_of more) (more ++ own) → Decided c more own
 split_decided c [] own h = tt
@@ -253,7 +260,8 @@ commit_ran s callers n past event r legal c most decide stop ih =
     let alone = played_alone t run m p.own p.as_requested (finds_own m p.more p.own found) (own_by t p.more p.own by) in
     let end : left run p.own ≡ ends c.answers = ended_run (left run p.own) c.answers
     (sym (left_next run p.own p.as_requested) ∙ own_end run (caller_accesses past t) (acts past t) c.answers p c.next) in
-    let procedure : by_procedure t run (so_far [] m) ≡ so_far p.own alone.0 = alone.1 ∙ ap (λ q. by_procedure t q (so_far p.own alone.0)) end in
+    let procedure : by_procedure t run (so_far [] m) ≡ so_far p.own alone.0 = alone.1
+    ∙ ap (λ q. by_procedure t q (so_far p.own alone.0)) end in
     let outcome : serial run m ≡ Done c.answers alone.0 = alone.2 ∙ ap (λ q. serial q alone.0) end in
     let more = decided_alone t (callers t) m p.own p.more alone.0 decided found by alone.3 in
     let few : length p.more ≤ n =
@@ -261,7 +269,8 @@ commit_ran s callers n past event r legal c most decide stop ih =
     let long : length (acts past t) ≡ length (p.more ++ p.own) = ap length p.all_are in
     let both = length-append p.more p.own in omega arith) in
     let rest : by_caller t (callers t) n (so_far p.own alone.0) ≡ so_far (acts past t) more.0 =
-    stays t (callers t) (so_far p.own alone.0) (p.more ++ p.own) more.0 (length p.more) n more.1 (subst (λ l. callers t l ≡ None) p.all_are stop) few
+    stays t (callers t) (so_far p.own alone.0) (p.more ++ p.own) more.0 (length p.more) n more.1
+    (subst (λ l. callers t l ≡ None) p.all_are stop) few
     ∙ ap (λ l. so_far l more.0) (sym p.all_are) in
     let is : with_run t (callers t) n run before ≡ with_turn (record { result = GaveAnswers c.answers; acts = acts past t }) more.0 before
     = ap₂ (λ o a. after_procedure t (callers t) n o a before) outcome procedure
@@ -298,7 +307,8 @@ refused_ran s callers n past e legal x ih =
     let procedure : by_procedure t run (so_far [] m) ≡ so_far (acts past t) alone.0 =
     alone.1 ∙ (ap (λ q. by_procedure t q (so_far p.own alone.0)) end ∙ ap (λ l. so_far l alone.0) (sym only.1)) in
     let outcome : serial run m ≡ Asked x.code = alone.2 ∙ ap (λ q. serial q alone.0) end in
-    let is : with_entry s callers n past e.event e.reply before ≡ with_turn (record { result = RaisedCode x.code; acts = acts past t }) m before
+    let is : with_entry s callers n past e.event e.reply before
+    ≡ with_turn (record { result = RaisedCode x.code; acts = acts past t }) m before
     = ap₂ (λ ev r. with_entry s callers n past ev r before) x.event_is x.reply_is
     ∙ ap₂ (λ o a. after_procedure t (callers t) n o a before) outcome procedure in
     record {
@@ -310,7 +320,8 @@ refused_ran s callers n past e legal x ih =
     }
 
 -- at any other entry none runs
-no_turn : (s : Configuration) (callers : ℕ → Caller) (n : ℕ) (past : List Entry) (event : Event) (r : Reply) (before : Turns) → reported_in r ≡ []
+no_turn : (s : Configuration) (callers : ℕ → Caller) (n : ℕ) (past : List Entry) (event : Event) (r : Reply) (before : Turns)
+    → reported_in r ≡ []
     → (with_entry s callers n past event r before ≡ before) × (turn_in past event r ≡ [])
 no_turn s callers n past event (reply.Committed answers) before e = absurd (cc e)
 no_turn s callers n past event (reply.Refused code fell) before e = absurd (cc e)
@@ -355,11 +366,13 @@ script (e ∷ past) t l = cond (nat_eq (length l) (length (acts past t))) (now_r
 
 script_here : (e : Entry) (past : List Entry) (t : ℕ) (l : List Access) → length l ≡ length (acts past t)
     → script (e ∷ past) t l ≡ now_requested e.event e.reply t
-script_here e past t l h = cond-true (nat_eq (length l) (length (acts past t))) (now_requested e.event e.reply t) (script past t l) (eq-eqb _ _ h)
+script_here e past t l h = cond-true (nat_eq (length l) (length (acts past t))) (now_requested e.event e.reply t) (script past t l)
+    (eq-eqb _ _ h)
 
 script_older : (e : Entry) (past : List Entry) (t : ℕ) (l : List Access) → length l ≢ length (acts past t)
     → script (e ∷ past) t l ≡ script past t l
-script_older e past t l h = cond-false (nat_eq (length l) (length (acts past t))) (now_requested e.event e.reply t) (script past t l) (ne_eqb _ _ h)
+script_older e past t l h = cond-false (nat_eq (length l) (length (acts past t))) (now_requested e.event e.reply t)
+    (script past t l) (ne_eqb _ _ h)
 
 acts_grow : (x : Option Access) (t : ℕ) (l : List Access) → length l ≤ length (act_in x t l)
 acts_grow None t l = omega arith
@@ -372,7 +385,8 @@ acts_grow (Some a) t l = by_own (nat_eq a.by t)
 own_longer : (a : Access) (t : ℕ) (l : List Access) → a.by ≡ t → length (act_in (Some a) t l) ≡ suc (length l)
 own_longer a t l z = ap length (act_own (Some a) a t l refl z)
 
-none_now : (event : Event) (r : Reply) (past : List Entry) (t : ℕ) → length (act_in (access_in event r) t (acts past t)) ≤ length (acts past t)
+none_now : (event : Event) (r : Reply) (past : List Entry) (t : ℕ)
+    → length (act_in (access_in event r) t (acts past t)) ≤ length (acts past t)
     → now_requested event r t ≡ None
 none_now (event.Access u d) (reply.Looked k v) past t h = elim (cases_eq u t) [
   | inl z ↦ let longer = own_longer (access u k Look v) t (acts past t) z in absurd (omega arith)
@@ -394,15 +408,18 @@ no_more_requested (e ∷ past) t l most =
     ]
 
 entry_decided : (past : List Entry) (event : Event) (r : Reply) (t : ℕ) (c : Caller)
-    → ((l : List Access) → length l < length (act_in (access_in event r) t (acts past t)) → c l ≡ script (record { event = event; reply = r } ∷ past) t l)
+    → ((l : List Access) → length l < length (act_in (access_in event r) t (acts past t)) → c l
+    ≡ script (record { event = event; reply = r } ∷ past) t l)
     → (committed (record { event = event; reply = r } ∷ past) t ≡ true → (l : List Access)
     → length (act_in (access_in event r) t (acts past t)) ≤ length l → c l ≡ None) → AsDecided c t past event r
 entry_decided past (event.Access u d) (reply.Looked k v) t c agree stop = λ z.
     let longer = own_longer (access u k Look v) t (acts past t) z in
-    agree (acts past t) (omega arith) ∙ (script_here (record { event = event.Access u d; reply = reply.Looked k v }) past t (acts past t) refl ∙ cond-true (nat_eq u t) (Some d) None (eq-eqb u t z))
+    agree (acts past t) (omega arith) ∙ (script_here (record { event = event.Access u d; reply = reply.Looked k v }) past t
+    (acts past t) refl ∙ cond-true (nat_eq u t) (Some d) None (eq-eqb u t z))
 entry_decided past (event.Access u d) (reply.Wrote k v) t c agree stop = λ z.
     let longer = own_longer (access u k Store v) t (acts past t) z in
-    agree (acts past t) (omega arith) ∙ (script_here (record { event = event.Access u d; reply = reply.Wrote k v }) past t (acts past t) refl ∙ cond-true (nat_eq u t) (Some d) None (eq-eqb u t z))
+    agree (acts past t) (omega arith) ∙ (script_here (record { event = event.Access u d; reply = reply.Wrote k v }) past t
+    (acts past t) refl ∙ cond-true (nat_eq u t) (Some d) None (eq-eqb u t z))
 entry_decided past (Commit u) (reply.Committed answers) t c agree stop = λ z.
     stop (subst (λ w. committed (commit_entry u answers ∷ past) w ≡ true) z (committed_own past u answers)) (acts past t) (omega arith)
 entry_decided past _ _ t c agree stop = tt
@@ -415,7 +432,8 @@ acts_stay s e past t h g = by_access (access_of e) refl
     by_access : (x : Option Access) → access_of e ≡ x → acts (e ∷ past) t ≡ acts past t
     by_access None is = act_none (access_of e) t (acts past t) is
     by_access (Some a) is = ⊎_elim
-        (λ z. absurd (live-not_committed past a.by (access-live s past e.event e.reply h.1 a is) (subst (λ u. committed past u ≡ true) (sym z) g)))
+        (λ z. absurd (live-not_committed past a.by (access-live s past e.event e.reply h.1 a is)
+        (subst (λ u. committed past u ≡ true) (sym z) g)))
         (λ z. act_other (access_of e) a t (acts past t) is z) (cases_eq a.by t)
 
 decides : (s : Configuration) (past : List Entry) → Legal s past → (t : ℕ) (c : Caller)
@@ -431,7 +449,11 @@ decides s (e ∷ past) h t c agree stop =
     )
 
 pub callers_exist : CallersExist
-callers_exist s past h t = (script past t, decides s past h t (script past t) (λ l less. refl) (λ g l most. no_more_requested past t l most))
+callers_exist s past h t = (
+  script past t,
+  decides s past h t (script past t) (λ l less. refl)
+      (λ g l most. no_more_requested past t l most),
+)
 
 -- ---- without such accesses
 
@@ -451,12 +473,19 @@ abbrev AreProcedures : Rules → List Call → Type 0
 AreProcedures r [] = Unit {0}
 AreProcedures r (c ∷ before) = AreProcedures r before × ((m : Contents) → outcome_in r c m ≡ serial (run_of r c) m)
 
-procedures_on : (past : List Entry) (event : Event) (r : Reply) (rules : Rules) → AreOfProcedures past → AreProcedures rules (reported_calls past)
+procedures_on : (past : List Entry) (event : Event) (r : Reply) (rules : Rules) → AreOfProcedures past
+    → AreProcedures rules (reported_calls past)
     → AreProcedures rules (reported_call_in past event r ++ reported_calls past)
-procedures_on past event (reply.Committed answers) rules h before =
-    (before, λ m. ap (λ xs. with_accesses xs (serial (run_of rules (call_of past (subject event))) m)) (caller_accesses_none past (subject event) h))
-procedures_on past event (reply.Refused code fell) rules h before =
-    (before, λ m. ap (λ xs. with_accesses xs (serial (run_of rules (call_of past (subject event))) m)) (caller_accesses_none past (subject event) h))
+procedures_on past event (reply.Committed answers) rules h before = (
+  before,
+  λ m. ap (λ xs. with_accesses xs (serial (run_of rules (call_of past (subject event))) m))
+      (caller_accesses_none past (subject event) h),
+)
+procedures_on past event (reply.Refused code fell) rules h before = (
+  before,
+  λ m. ap (λ xs. with_accesses xs (serial (run_of rules (call_of past (subject event))) m))
+      (caller_accesses_none past (subject event) h),
+)
 procedures_on past event _ rules h before = before
 
 are_procedures : (past : List Entry) (rules : Rules) → AreOfProcedures past → AreProcedures rules (reported_calls past)

@@ -23,7 +23,8 @@ pub in_order-map : (R S : ℕ → ℕ → Type 0) → ((a b : ℕ) → R a b →
 in_order-map R S f [] h = tt
 in_order-map R S f (w ∷ c) h = (each-map R S f w.0 c h.0, in_order-map R S f c h.1)
 
-pub each-filter : (R : ℕ → ℕ → Type 0) (t : ℕ) (f : ℕ × Option ℤ → Bool) (c : List (ℕ × Option ℤ)) → EachAfter R t c → EachAfter R t (filter f c)
+pub each-filter : (R : ℕ → ℕ → Type 0) (t : ℕ) (f : ℕ × Option ℤ → Bool) (c : List (ℕ × Option ℤ)) → EachAfter R t c
+    → EachAfter R t (filter f c)
 each-filter R t f [] h = tt
 each-filter R t f (w ∷ c) h = go (f w) (each-filter R t f c h.1)
   where
@@ -39,11 +40,13 @@ in_order-filter R f (w ∷ c) h = go (f w) (in_order-filter R f c h.1)
     go true r = (each-filter R w.0 f c h.0, r)
     go false r = r
 
-pub each-add : (R : ℕ → ℕ → Type 0) (t u : ℕ) (v : Option ℤ) (c : List (ℕ × Option ℤ)) → EachAfter R t c → R t u → EachAfter R t (c ++ (u, v) ∷ [])
+pub each-add : (R : ℕ → ℕ → Type 0) (t u : ℕ) (v : Option ℤ) (c : List (ℕ × Option ℤ)) → EachAfter R t c → R t u
+    → EachAfter R t (c ++ (u, v) ∷ [])
 each-add R t u v [] h r = (r, tt)
 each-add R t u v (w ∷ c) h r = (h.0, each-add R t u v c h.1 r)
 
-pub in_order-add : (R : ℕ → ℕ → Type 0) (u : ℕ) (v : Option ℤ) (c : List (ℕ × Option ℤ)) → InOrder R c → ((t : ℕ) → writes_in t c ≡ true → R t u)
+pub in_order-add : (R : ℕ → ℕ → Type 0) (u : ℕ) (v : Option ℤ) (c : List (ℕ × Option ℤ)) → InOrder R c
+    → ((t : ℕ) → writes_in t c ≡ true → R t u)
     → InOrder R (c ++ (u, v) ∷ [])
 in_order-add R u v [] h r = (tt, tt)
 in_order-add R u v (w ∷ c) h r = (
@@ -106,7 +109,8 @@ any-filter t f (w ∷ c) h = go (f w) (any-filter t f c) h
     ]
     go false ih h = or_right (nat_eq w.0 t) (writes_in t c) (ih h)
 
-pub written-cases : (t u : ℕ) (v : Option ℤ) (c : List (ℕ × Option ℤ)) → writes_in t (write_last u v c) ≡ true → (writes_in t c ≡ true) ⊎ (u ≡ t)
+pub written-cases : (t u : ℕ) (v : Option ℤ) (c : List (ℕ × Option ℤ)) → writes_in t (write_last u v c) ≡ true
+    → (writes_in t c ≡ true) ⊎ (u ≡ t)
 written-cases t u v c h =
     elim (or_cases (writes_in t (chain_without u c)) (writes_in t ((u, v) ∷ []))
     (sym (list_any-append (λ w. nat_eq w.0 t) (chain_without u c) ((u, v) ∷ [])) ∙ h)) [
@@ -205,7 +209,8 @@ each-last : (R : ℕ → ℕ → Type 0) (t : ℕ) (w : ℕ × Option ℤ) (c : 
 each-last R t w [] h = inl refl
 each-last R t w (x ∷ c) h = inr (go x c h.0 h.1)
   where
-    go : (x : ℕ × Option ℤ) (c : List (ℕ × Option ℤ)) → R t x.0 → EachAfter R t c → (z : ℕ × Option ℤ) × (last_or (Some x) c ≡ Some z) × R t z.0
+    go : (x : ℕ × Option ℤ) (c : List (ℕ × Option ℤ)) → R t x.0 → EachAfter R t c → (z : ℕ × Option ℤ)
+        × (last_or (Some x) c ≡ Some z) × R t z.0
     go x [] r h = (x, refl, r)
     go x (y ∷ c) r h = go y c h.0 h.1
 
@@ -217,7 +222,8 @@ last_from R t o (w ∷ c) h m = elim (or_cases _ _ m) [ inl here ↦ at (eqb-tru
     at : w.0 ≡ t → (z : ℕ × Option ℤ) × (last_or (Some w) c ≡ Some z) × ((z.0 ≡ t) ⊎ R t z.0)
     at e = elim (each-last R w.0 w c h.0) [ inl same ↦ (w, same, inl e) | inr x ↦ (x.0, x.1, inr (subst (λ u. R u x.0.0) e x.2)) ]
 
-pub last_in : (o : Option (ℕ × Option ℤ)) (c : List (ℕ × Option ℤ)) (z : ℕ × Option ℤ) → last_or o c ≡ Some z → (o ≡ Some z) ⊎ (writes_in z.0 c ≡ true)
+pub last_in : (o : Option (ℕ × Option ℤ)) (c : List (ℕ × Option ℤ)) (z : ℕ × Option ℤ) → last_or o c ≡ Some z
+    → (o ≡ Some z) ⊎ (writes_in z.0 c ≡ true)
 last_in o [] z e = inl e
 last_in o (w ∷ c) z e =
     elim (last_in (Some w) c z e) [

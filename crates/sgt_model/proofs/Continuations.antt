@@ -101,8 +101,10 @@ either false x = refl
 contents_removed : (k : Key) (rows : List Row) (j : Key) → contents_of (removed k rows) j ≡ set_in (contents_of rows) k None j
 contents_removed k [] j = either (key_eq k j) None
 contents_removed k (r ∷ rows) j = both (key_eq r.0 k) (key_eq k j) (key_eq r.0 j) refl refl refl (contents_removed k rows j) where
-  both : (a b c : Bool) → key_eq r.0 k ≡ a → key_eq k j ≡ b → key_eq r.0 j ≡ c → contents_of (removed k rows) j ≡ cond (key_eq k j) None (contents_of rows j)
-      → contents_of (cond a (removed k rows) (r ∷ removed k rows)) j ≡ cond (key_eq k j) None (cond (key_eq r.0 j) (Some r.1) (contents_of rows j))
+  both : (a b c : Bool) → key_eq r.0 k ≡ a → key_eq k j ≡ b → key_eq r.0 j ≡ c → contents_of (removed k rows) j
+      ≡ cond (key_eq k j) None (contents_of rows j)
+      → contents_of (cond a (removed k rows) (r ∷ removed k rows)) j
+      ≡ cond (key_eq k j) None (cond (key_eq r.0 j) (Some r.1) (contents_of rows j))
   both true true c ea eb ec rest = rest ∙ (ap (λ t. cond t None (contents_of rows j)) eb
       ∙ sym (ap (λ t. cond t None (cond (key_eq r.0 j) (Some r.1) (contents_of rows j))) eb))
   both true false c ea eb ec rest =

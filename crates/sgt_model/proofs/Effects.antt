@@ -351,7 +351,8 @@ step_at s past t r (Raises code) e alive h = raised_step s past t code r e alive
 
 -- an access that the caller requests
 
-requested_at : (s : Configuration) (past : List Entry) (t : ℕ) (r : Reply) (d : Request) (answers : List ℤ) → next_of s past t ≡ Ends answers
+requested_at : (s : Configuration) (past : List Entry) (t : ℕ) (r : Reply) (d : Request) (answers : List ℤ) → next_of s past t
+    ≡ Ends answers
     → live past t ≡ true → is_fit d ≡ true → StepReply s past t (requested d) r → Effect s past (event.Access t d) r
 requested_at s past t r (Read k) answers e alive fit h = look_at s past (event.Access t (Read k)) t r (Looks k) k (about_request t (Read k))
     (λ cycle c. c) (refl, refl) (answers, e, fit, (refl, refl)) alive h
@@ -359,11 +360,13 @@ requested_at s past t r (Write k v) answers e alive fit h = store_at s past (eve
     (about_request t (Write k v)) (λ cycle c. c) (refl, refl) (answers, e, fit, (refl, refl, refl)) alive h
 
 fit_at : (s : Configuration) (past : List Entry) (t : ℕ) (r : Reply) (d : Request) (answers : List ℤ) → next_of s past t ≡ Ends answers
-    → live past t ≡ true → (fit : Bool) → is_fit d ≡ fit → OfFit fit r (StepReply s past t (requested d) r) → Effect s past (event.Access t d) r
+    → live past t ≡ true → (fit : Bool) → is_fit d ≡ fit → OfFit fit r (StepReply s past t (requested d) r)
+    → Effect s past (event.Access t d) r
 fit_at s past t r d answers e alive true fit h = requested_at s past t r d answers e alive fit h
 fit_at s past t r d answers e alive false fit h = idle_at h (record { no_start = refl; no_access = refl; ends_none = tt })
 
-request_at : (s : Configuration) (past : List Entry) (t : ℕ) (r : Reply) (d : Request) (n : Next) → next_of s past t ≡ n → live past t ≡ true
+request_at : (s : Configuration) (past : List Entry) (t : ℕ) (r : Reply) (d : Request) (n : Next) → next_of s past t ≡ n
+    → live past t ≡ true
     → RequestReply s past t d n r → Effect s past (event.Access t d) r
 request_at s past t r d (Ends answers) e alive h = fit_at s past t r d answers e alive (is_fit d) refl h
 request_at s past t r d (Looks k) e alive h = idle_at h (record { no_start = refl; no_access = refl; ends_none = tt })

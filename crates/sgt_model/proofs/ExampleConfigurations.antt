@@ -27,26 +27,14 @@ balance = record {
       empty)));
 }
 
--- an amount more in the checking
-abbrev pub deposit_checking : ProcedureText
-deposit_checking = record {
+-- an amount more in the balance of this table
+abbrev pub deposit : ℕ → ProcedureText
+deposit table = record {
   args = 2;
   body =
       look 0 0 (arg 0) 1 (
-      look 1 2 (reg 0) 5 (
-      put 2 (reg 0) (sum (reg 1) (arg 1)) (
-      answer (sum (reg 1) (arg 1))
-      empty)));
-}
-
--- an amount more in the saving
-abbrev pub transact_saving : ProcedureText
-transact_saving = record {
-  args = 2;
-  body =
-      look 0 0 (arg 0) 1 (
-      look 1 1 (reg 0) 5 (
-      put 1 (reg 0) (sum (reg 1) (arg 1)) (
+      look 1 table (reg 0) 5 (
+      put table (reg 0) (sum (reg 1) (arg 1)) (
       answer (sum (reg 1) (arg 1))
       empty)));
 }
@@ -121,7 +109,7 @@ opening_of_three = found_in (((0, pos 1), pos 101) ∷ ((0, pos 2), pos 102) ∷
 
 -- the five by number
 abbrev pub five : List ProcedureText
-five = balance ∷ deposit_checking ∷ transact_saving ∷ amalgamate ∷ write_check ∷ []
+five = balance ∷ deposit 2 ∷ deposit 1 ∷ amalgamate ∷ write_check ∷ []
 
 -- the bank with these limits and no other procedures
 abbrev pub small_bank : ℕ → ℕ → Configuration

@@ -58,7 +58,8 @@ abbrev pub the_call : Call
 the_call = record {
   procedure = 65535;
   args = [];
-  caller_accesses = reported (3, pos 9) None ∷ wrote (2, pos 101) (Some (pos 800)) ∷ reported (2, pos 102) (Some (pos 200)) ∷ reported (2, pos 101) (Some (pos 1000)) ∷ [];
+  caller_accesses = reported (3, pos 9) None ∷ wrote (2, pos 101) (Some (pos 800)) ∷ reported (2, pos 102) (Some (pos 200))
+      ∷ reported (2, pos 101) (Some (pos 1000)) ∷ [];
 }
 
 write_skew-calls : reported_calls write_skew ≡ the_call ∷ []
@@ -74,7 +75,12 @@ write_skew-settled : settled opening write_skew (2, pos 101) ≡ Some (pos 800)
 write_skew-settled = refl
 
 -- a read that had returned anything else would not be replayed
-wrongly_reported : outcome_in small_bank_begin.rules (record { procedure = 65535; args = []; caller_accesses = reported (2, pos 101) (Some (pos 999)) ∷ [] }) opening
+wrongly_reported : outcome_in small_bank_begin.rules (record {
+  procedure = 65535;
+  args = [];
+  caller_accesses = reported (2, pos 101)
+      (Some (pos 999)) ∷ [];
+}) opening
     ≡ Asked 0
 wrongly_reported = refl
 

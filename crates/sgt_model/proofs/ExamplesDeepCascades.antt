@@ -93,7 +93,8 @@ three_level_cycle-legal =
     ▸ inr (made_by (0 ∷ []) refl) ▸ inr (made_by (1 ∷ []) refl) ▸ inr (made_by (1 ∷ []) refl)
     ▸ inr (made_by (2 ∷ []) refl) ▸ inr (made_by (2 ∷ []) refl) ▸ inr (made_by (3 ∷ []) refl)
     ▸ inr (made_by (3 ∷ []) refl) ▸ inr (made_by (3 ∷ []) refl)
-    ▸ inl (refused_by (1 ∷ 2 ∷ []) (1 ∷ 2 ∷ 3 ∷ []) ((1 ∷ []) ∷ (1 ∷ 2 ∷ []) ∷ (1 ∷ 2 ∷ 3 ∷ []) ∷ []) (0 ∷ 1 ∷ 2 ∷ 3 ∷ []) refl refl refl refl)
+    ▸ inl (refused_by (1 ∷ 2 ∷ []) (1 ∷ 2 ∷ 3 ∷ []) ((1 ∷ []) ∷ (1 ∷ 2 ∷ []) ∷ (1 ∷ 2 ∷ 3 ∷ []) ∷ []) (0 ∷ 1 ∷ 2 ∷ 3 ∷ []) refl refl
+    refl refl)
     ▸ refl ▸ refl
 
 three_level_cycle-first : settled small_bank_copy.opening three_level_cycle (2, pos 101) ≡ Some (pos 1000)

@@ -162,7 +162,8 @@ block_is args (choose test ys ns b) following w =
     (following_first args b following (execute args ns w) _ (block_is args b following) (block_is args ns (onto b following) w))
 block_is args (answer value b) following w =
     following_first args b following (give_answer args value w) _ (block_is args b following)
-    (value_step (value_of value args w.registers) (evaluate value args w) _ w.working _ (along args (onto b following)) (value_is value args w)
+    (value_step (value_of value args w.registers) (evaluate value args w) _ w.working _ (along args (onto b following))
+    (value_is value args w)
     (λ v. last_step (nat_lt (length w.answers) 8) _ _ w.working (along args (onto b following)) refl))
 
 -- procedures

@@ -66,7 +66,8 @@ Commits-no_access {s} {past} {event} {r} c = ap (λ x. access_in event x) c.repl
 Begins-no_access : {s : Configuration} {past : List Entry} {event : Event} {r : Reply} → Begins s past event r → access_in event r ≡ None
 Begins-no_access {s} {past} {event} {r} b = ap (λ x. access_in event x) b.reply_is
 
-Begins-no_end : {s : Configuration} {past : List Entry} {event : Event} {r : Reply} → Begins s past event r → (u : ℕ) → ending_in event r u ≡ None
+Begins-no_end : {s : Configuration} {past : List Entry} {event : Event} {r : Reply} → Begins s past event r → (u : ℕ)
+    → ending_in event r u ≡ None
 Begins-no_end {s} {past} {event} {r} b u = ap (λ x. ending_in event x u) b.reply_is
 
 Undoes-no_access : {s : Configuration} {past : List Entry} {event : Event} {r : Reply} → Undoes s past event r → access_in event r ≡ None
@@ -219,7 +220,8 @@ pub fate-final : (s : Configuration) (e : Entry) (past : List Entry) → Legal s
 fate-final s e past h t f ended = option_or-at_none _ _ (ended-no_end s past e.event e.reply h.1 t f ended) ∙ ended
 
 -- what has ended was started
-pub ended-started : (s : Configuration) (past : List Entry) → Legal s past → (t : ℕ) (f : Fate) → fate_of past t ≡ Some f → t < start_count past
+pub ended-started : (s : Configuration) (past : List Entry) → Legal s past → (t : ℕ) (f : Fate) → fate_of past t ≡ Some f
+    → t < start_count past
 ended-started s [] h t f ended = absurd (cc)
 ended-started s (e ∷ past) h t f ended =
     elim (option_or-cases _ _ f ended) [
@@ -380,7 +382,8 @@ uncommitted s past event r h = record {
   agrees = ends_none-agrees s past event r h;
 }
 
-undone_uncommitted : (s : Configuration) (past : List Entry) (event : Event) (r : Reply) → Undoes s past event r → Uncommitted s past event r
+undone_uncommitted : (s : Configuration) (past : List Entry) (event : Event) (r : Reply) → Undoes s past event r
+    → Uncommitted s past event r
 undone_uncommitted s past event r x = record {
   no_call = ap (λ y. reported_call_in past event y) x.reply_is;
   reports_none = ap reported_in x.reply_is;

@@ -38,7 +38,8 @@ run_reached args following (Err code) = raises code
 -- the tests of a run, one by one
 
 value_step : (args : List ℤ) (following : Way) (g : Got) (go : ℤ → Run) (next : ℤ → OrCode Reached)
-    → ((v : ℤ) → go v ≡ run_reached args following (next v)) → with_value g go ≡ run_reached args following (and_then (number_or_code g) next)
+    → ((v : ℤ) → go v ≡ run_reached args following (next v)) → with_value g go
+    ≡ run_reached args following (and_then (number_or_code g) next)
 value_step args following (is v) go next same = same v
 value_step args following over go next same = refl
 value_step args following missing go next same = refl
@@ -98,8 +99,10 @@ reach_is args (save to value b) following registers answers =
 reach_is args (ask code b) following registers answers = refl
 reach_is args (choose test ys ns b) following registers answers =
     test_step args following (truth_of test args registers) _ _ _
-    (reach_is args ys (onto b following) registers answers ∙ if_step args b following (reach ys args registers answers) (reach_is args b following))
-    (reach_is args ns (onto b following) registers answers ∙ if_step args b following (reach ns args registers answers) (reach_is args b following))
+    (reach_is args ys (onto b following) registers answers ∙ if_step args b following (reach ys args registers answers)
+    (reach_is args b following))
+    (reach_is args ns (onto b following) registers answers ∙ if_step args b following (reach ns args registers answers)
+    (reach_is args b following))
 reach_is args (answer value b) following registers answers =
     value_step args following (value_of value args registers) _ _
     (λ v. provided_step args following (nat_lt (length answers) 8) (answers ++ v ∷ []) _ _
@@ -285,7 +288,8 @@ left_past (suc made) (suc total) (raises code) l values more answers few same us
 
 -- and a read or a write that is made there leaves it
 
-look_stays : (found : Option ℤ) (l : Left) (answers : List ℤ) (o : OrCode Reached) → next_of_reached o ≡ Ends answers → left_with_found found o l ≡ l
+look_stays : (found : Option ℤ) (l : Left) (answers : List ℤ) (o : OrCode Reached) → next_of_reached o ≡ Ends answers
+    → left_with_found found o l ≡ l
 look_stays found l answers (Ok (AtLook key to absent r)) e = absurd (cc e)
 look_stays found l answers (Ok (AtFind key to absent r)) e = absurd (cc e)
 look_stays found l answers (Ok (AtStore key v r)) e = refl

@@ -76,7 +76,8 @@ module _ (p : Option ProcedureText) (args : List ℤ) (xs : List CallerAccess) (
       let long = length-append more h.own in
       let few : length h.own ≤ length (more ++ h.own) = omega arith in
       ap (λ vs. left_after (left_if p args) vs (length (more ++ h.own))) (values_append more h.own)
-      ∙ left_past (length h.own) (length (more ++ h.own)) (run_if p args) (left_if p args) (values_read h.own) (values_read more) answers few
+      ∙ left_past (length h.own) (length (more ++ h.own)) (run_if p args) (left_if p args) (values_read h.own) (values_read more)
+      answers few
       (run_at_start p args) own_used (own_next ∙ e)
 
   -- all are the run's own, or the end has come
@@ -92,7 +93,8 @@ module _ (p : Option ProcedureText) (args : List ℤ) (xs : List CallerAccess) (
     | inr end ↦ past_end (run_if p args) h.own end.0 h.as_requested end.1 h.more ∙ sym end.1
   ]
 
-  pub next_played : next_left (left_after (left_if p args) (values_read all) (length all)) ≡ requests_of (run_if p args) (values_read all) (length all)
+  pub next_played : next_left (left_after (left_if p args) (values_read all) (length all))
+      ≡ requests_of (run_if p args) (values_read all) (length all)
   next_played = ap next_left left_own ∙ (own_next ∙ sym requests_own)
 
   pub looked_played : (key : Key) (found : Option ℤ) → requests_of (run_if p args) (values_read all) (length all) ≡ Looks key
@@ -105,7 +107,8 @@ module _ (p : Option ProcedureText) (args : List ℤ) (xs : List CallerAccess) (
       (looked_if p args (values_read h.own) (length h.own) own_used key found (sym requests_own ∙ next))
 
   pub stored_played : (key : Key) (v : Option ℤ) → requests_of (run_if p args) (values_read all) (length all) ≡ Puts key v
-      → left_after (left_if p args) (values_read all) (suc (length all)) ≡ after_store (left_after (left_if p args) (values_read all) (length all))
+      → left_after (left_if p args) (values_read all) (suc (length all))
+      ≡ after_store (left_after (left_if p args) (values_read all) (length all))
   stored_played key v next =
       let only = only_own (run_if p args) xs all h (λ answers e. cc (sym next ∙ e)) in
       subst (λ l. left_after (left_if p args) (values_read l) (suc (length l)) ≡ after_store
@@ -122,7 +125,8 @@ module _ (p : Option ProcedureText) (args : List ℤ) (xs : List CallerAccess) (
 -- so it is in a legal history
 module _ (s : Configuration) (past : List Entry) (h : Legal s past) (t : ℕ) where
   pub next_is_left : next_left (left_of s.rules past t) ≡ next_of s past t
-  next_is_left = next_played (s.rules.procedures (call_of past t).procedure) (call_of past t).args (caller_accesses past t) (acts past t) (plays s past t h)
+  next_is_left = next_played (s.rules.procedures (call_of past t).procedure) (call_of past t).args (caller_accesses past t)
+      (acts past t) (plays s past t h)
 
   pub left_looked : (key : Key) (found : Option ℤ) → next_of s past t ≡ Looks key
       → left_after (left_of_call s.rules (call_of past t)) (reads past t ++ found ∷ []) (suc (made past t)) ≡ after_look found

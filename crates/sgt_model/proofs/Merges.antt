@@ -32,14 +32,6 @@ pub row_more : (rows : List Row) (i : ℕ) (r : Row) → IsByKey rows → slice_
 row_more rows i r ordered at k = subst (λ n. contents_of (take n rows) k ≡ put_in (contents_of (take i rows)) r.0 r.1 k) (sym (add-one i))
     (one_row_more rows i r ordered at k)
 
--- before a row its key has no value
-pub row_new : (rows : List Row) (i : ℕ) (r : Row) → IsByKey rows → slice_get rows i ≡ Some r → contents_of (take i rows) r.0 ≡ None
-row_new [] i r ordered at = absurd (cc)
-row_new (x ∷ rows) zero r ordered at = refl
-row_new (x ∷ rows) (suc i) r ordered at =
-    ap (λ b. cond b (Some x.1) (contents_of (take i rows) r.0)) (key_eq-below x.0 r.0 (below_at x.0 rows i r ordered.0 at))
-    ∙ row_new rows i r ordered.1 at
-
 -- a row's value is one
 pub value_of_row : (rows : List Row) (i : ℕ) (r : Row) → HasValues rows → slice_get rows i ≡ Some r → IsValue r.1
 value_of_row [] i r values at = absurd (cc)

@@ -143,8 +143,10 @@ plays_on : (s : Configuration) (past : List Entry) (e : Entry) (t : ℕ) → Leg
     (caller_accesses past t) (acts past t) → PlaysCall s (call_of past t) (caller_accesses (e ∷ past) t) (acts (e ∷ past) t)
 plays_on s past e t h ih = by_access (access_of e) refl
   where
-    xs_are : (x : Option Access) → access_of e ≡ x → (l : List CallerAccess) → caller_access_if e.event x t ≡ l → caller_accesses (e ∷ past) t ≡ l ++ caller_accesses past t
-    xs_are x is l same = ap (λ z. z ++ caller_accesses past t) (caller_access_in-is e.event e.reply t ∙ (ap (λ y. caller_access_if e.event y t) is ∙ same))
+    xs_are : (x : Option Access) → access_of e ≡ x → (l : List CallerAccess) → caller_access_if e.event x t ≡ l
+        → caller_accesses (e ∷ past) t ≡ l ++ caller_accesses past t
+    xs_are x is l same = ap (λ z. z ++ caller_accesses past t)
+        (caller_access_in-is e.event e.reply t ∙ (ap (λ y. caller_access_if e.event y t) is ∙ same))
 
     kept : (x : Option Access) → access_of e ≡ x → caller_access_if e.event x t ≡ [] → act_in (access_of e) t (acts past t) ≡ acts past t
         → PlaysCall s (call_of past t) (caller_accesses (e ∷ past) t) (acts (e ∷ past) t)
@@ -161,7 +163,8 @@ plays_on s past e t h ih = by_access (access_of e) refl
     by_access : (x : Option Access) → access_of e ≡ x → PlaysCall s (call_of past t) (caller_accesses (e ∷ past) t) (acts (e ∷ past) t)
     by_access None is = kept None is (caller_access_if-none e.event t) (act_none (access_of e) t (acts past t) is)
     by_access (Some a) is =
-        ⊎_elim (λ z. own a is z) (λ z. kept (Some a) is (caller_access_if-other e.event a t z) (act_other (access_of e) a t (acts past t) is z))
+        ⊎_elim (λ z. own a is z) (λ z. kept (Some a) is (caller_access_if-other e.event a t z)
+        (act_other (access_of e) a t (acts past t) is z))
         (cases_eq a.by t)
 
 played_none : (r : Run) → PlayedOn r [] []
@@ -173,15 +176,18 @@ none_requested s [] t h unstarted = refl
 none_requested s (e ∷ past) t h unstarted =
     let grow = starts-grow e past in
     let before : start_count past ≤ t = omega arith in
-    ap (λ z. z ++ caller_accesses past t) (caller_access_in-is e.event e.reply t ∙ by_access (access_of e) refl before) ∙ none_requested s past t h.0 before
+    ap (λ z. z ++ caller_accesses past t) (caller_access_in-is e.event e.reply t ∙ by_access (access_of e) refl before)
+    ∙ none_requested s past t h.0 before
   where
     by_access : (x : Option Access) → access_of e ≡ x → start_count past ≤ t → caller_access_if e.event (access_of e) t ≡ []
     by_access None is before = ap (λ y. caller_access_if e.event y t) is ∙ caller_access_if-none e.event t
     by_access (Some a) is before = ap (λ y. caller_access_if e.event y t) is ∙ caller_access_if-other e.event a t
-        (λ z. let started : a.by < start_count past = live-started past a.by (access-live s past e.event e.reply h.1 a is) in absurd (omega arith))
+        (λ z. let started : a.by < start_count past = live-started past a.by (access-live s past e.event e.reply h.1 a is) in absurd
+        (omega arith))
 
 -- what a transaction did is what its procedure wanted, and then what its caller requested
-pub plays : (s : Configuration) (past : List Entry) (t : ℕ) → Legal s past → PlaysCall s (call_of past t) (caller_accesses past t) (acts past t)
+pub plays : (s : Configuration) (past : List Entry) (t : ℕ) → Legal s past
+    → PlaysCall s (call_of past t) (caller_accesses past t) (acts past t)
 plays s [] t h = played_none _
 plays s (e ∷ past) t h = by_start (plays s past t h.0) (cases_lt t (start_count past))
   where
@@ -190,7 +196,8 @@ plays s (e ∷ past) t h = by_start (plays s past t h.0) (cases_lt t (start_coun
     by_start ih (inl started) = subst (λ c. PlaysCall s c (caller_accesses (e ∷ past) t) (acts (e ∷ past) t))
         (sym (call-kept s past e t h.1 started)) (plays_on s past e t h.1 ih)
     by_start ih (inr unstarted) =
-        let xs : caller_accesses (e ∷ past) t ≡ [] = ap (λ z. z ++ caller_accesses past t) (caller_access_in-is e.event e.reply t ∙ new (access_of e) refl unstarted)
+        let xs : caller_accesses (e ∷ past) t ≡ [] = ap (λ z. z ++ caller_accesses past t)
+        (caller_access_in-is e.event e.reply t ∙ new (access_of e) refl unstarted)
         ∙ none_requested s past t h.0 unstarted in
         subst₂ (λ xs l. PlaysCall s (call_of (e ∷ past) t) xs l) (sym xs)
         (sym (skip_unstarted s past e t h.1 unstarted ∙ acts_unstarted s past t h.0 unstarted)) (played_none _)
@@ -198,4 +205,5 @@ plays s (e ∷ past) t h = by_start (plays s past t h.0) (cases_lt t (start_coun
         new : (x : Option Access) → access_of e ≡ x → start_count past ≤ t → caller_access_if e.event (access_of e) t ≡ []
         new None is before = ap (λ y. caller_access_if e.event y t) is ∙ caller_access_if-none e.event t
         new (Some a) is before = ap (λ y. caller_access_if e.event y t) is ∙ caller_access_if-other e.event a t
-            (λ z. let started : a.by < start_count past = live-started past a.by (access-live s past e.event e.reply h.1 a is) in absurd (omega arith))
+            (λ z. let started : a.by < start_count past = live-started past a.by (access-live s past e.event e.reply h.1 a is) in
+            absurd (omega arith))

@@ -58,7 +58,8 @@ ends_named event _ t own e = absurd (cc)
 
 -- no reply to a live transaction is Over, so a reply that reports its end ends it
 
-ending_of : (r answer : Reply) → r ≡ answer → (reports_end answer ≡ true → is_ending answer ≡ true) → reports_end r ≡ true → is_ending r ≡ true
+ending_of : (r answer : Reply) → r ≡ answer → (reports_end answer ≡ true → is_ending answer ≡ true) → reports_end r ≡ true
+    → is_ending r ≡ true
 ending_of r answer is so e = subst (λ x. reports_end x ≡ true → is_ending x ≡ true) (sym is) so e
 
 raised_step_ends : (asks : Asks) (past : List Entry) (t code : ℕ) (r : Reply) → RaisedStep asks past t code r → reports_end r ≡ true

@@ -132,7 +132,8 @@ module _ (s : Configuration) (past : List Entry) (h : Legal s past) (before afte
   step_on (Looks k) r next alive (inl x) = let y = refused_in (Step t) (of_step t) k Look r alive x in (inl y.0, y.1)
   step_on (Looks k) r next alive (inr x) = (
     inr (record { free = free_of k Look alive x.free; is = x.reply ∙ ap (reply.Looked k) (found-visible s past h before i k) }),
-    subst (λ z. IsStateAfter s (entry (Step t) z ∷ past) after) (sym x.reply) (after_look s past h before after i t k alive (λ v. left_looked s past h t k v next) x.looks),
+    subst (λ z. IsStateAfter s (entry (Step t) z ∷ past) after) (sym x.reply)
+        (after_look s past h before after i t k alive (λ v. left_looked s past h t k v next) x.looks),
   )
   step_on (Puts k v) r next alive (inl x) = let y = refused_in (Step t) (of_step t) k Store r alive x in (inl y.0, y.1)
   step_on (Puts k v) r next alive (inr x) = (

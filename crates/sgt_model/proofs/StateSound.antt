@@ -57,7 +57,8 @@ begun_has (e ∷ past) t lt = go (is_start e.reply) (begun_has past t) lt
     go true before lt = member_added t (started_ones past) (start_count past) (now_or lt before)
     go false before lt = before lt
 
-pub state_is_sound : (s : Configuration) (past : List Entry) → Legal s past → (c : State) → IsStateAfter s past c → Sound s.rules.limits.live c
+pub state_is_sound : (s : Configuration) (past : List Entry) → Legal s past → (c : State) → IsStateAfter s past c
+    → Sound s.rules.limits.live c
 state_is_sound s past h c i = record {
   begun = λ t q. subst (λ n. t < n) (sym i.start_count) (live-started past t (sym (i.nodes t) ∙ q));
   listed = λ t. (

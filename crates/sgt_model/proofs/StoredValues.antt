@@ -85,7 +85,8 @@ stores_if_any (Some p) args = runs_store_values p args
 
 -- ---- what the contents hold
 
-pub value_put : (test : Bool) (v : Option ℤ) (before : Option ℤ) → IfSome v IsValue → IfSome before IsValue → IfSome (cond test v before) IsValue
+pub value_put : (test : Bool) (v : Option ℤ) (before : Option ℤ) → IfSome v IsValue → IfSome before IsValue
+    → IfSome (cond test v before) IsValue
 value_put true v before fits stood = fits
 value_put false v before fits stood = stood
 
@@ -127,7 +128,8 @@ replays_hold_values opening programs limits [] hold = hold
 replays_hold_values opening programs limits (c ∷ ran) hold =
     let before = replays_hold_values opening programs limits ran hold in
     hold_gone c.caller_accesses _ _
-    (hold_after (run_if (procedure_at programs c.procedure) c.args) _ _ (stores_if_any (procedure_at programs c.procedure) c.args) before before) before
+    (hold_after (run_if (procedure_at programs c.procedure) c.args) _ _ (stores_if_any (procedure_at programs c.procedure) c.args)
+    before before) before
 
 pub committed_are_values : CommittedAreValues
 committed_are_values opening programs limits past hold legal =

@@ -118,7 +118,11 @@ fits_shape (Raises code) a h = absurd h
 
 requested_shaped : (requested : List (Option ℤ) → ℕ → Next) (done : List Access) → AsRequested requested done → Shaped done
 requested_shaped requested [] h = tt
-requested_shaped requested (a ∷ done) h = (requested_shaped requested done h.0, fits_shape (requested (values_read done) (length done)) a h.1)
+requested_shaped requested (a ∷ done) h = (
+  requested_shaped requested done h.0,
+  fits_shape
+      (requested (values_read done) (length done)) a h.1,
+)
 
 with_append : (m : Contents) (xs ys : List Act) → with_stores m (xs ++ ys) ≡ with_stores (with_stores m xs) ys
 with_append m [] ys = refl
@@ -187,7 +191,8 @@ gives r law m done e h f g =
     let P : Trace → Type 0 = λ t. Finds m t.accesses (values_read done) → GivesAt t.ending (with_stores m t.accesses) (serial r m) in
     (subst P (whole_trace r done e h g) (law m (values_read done))) found
 
-pub left_next : (r : Run) (done : List Access) → AsRequested (requests_of r) done → next_at (trace r (values_read done)) (length done) ≡ next_of_run
+pub left_next : (r : Run) (done : List Access) → AsRequested (requests_of r) done
+    → next_at (trace r (values_read done)) (length done) ≡ next_of_run
     (left r done)
 left_next r done h = next_left r done (trace_left r done h [])
 
@@ -207,7 +212,8 @@ law_over_acts r law = record {
 pub values_append : (more own : List Access) → values_read (more ++ own) ≡ values_read own ++ values_read more
 values_append [] own = sym (append-nil (values_read own))
 values_append (a ∷ more) own =
-    ap (λ l. l ++ if_look a.kind a.value) (values_append more own) ∙ append_assoc (values_read own) (values_read more) (if_look a.kind a.value)
+    ap (λ l. l ++ if_look a.kind a.value) (values_append more own)
+    ∙ append_assoc (values_read own) (values_read more) (if_look a.kind a.value)
 
 -- past its accesses a trace has its ending next
 next_past : (xs : List Act) (e : TraceEnding) (n : ℕ) → length xs ≤ n → next_at (following xs (over_with [] e)) n ≡ next_of_ending e
@@ -216,7 +222,8 @@ next_past [] e (suc n) h = refl
 next_past (x ∷ xs) e zero h = absurd (omega arith)
 next_past (x ∷ xs) e (suc n) h = next_past xs e n (omega arith)
 
-at_end_trace : (r : Run) (answers : List ℤ) (ws : List (Option ℤ)) → next_of_run r ≡ Ends answers → trace r ws ≡ over_with [] (ended answers)
+at_end_trace : (r : Run) (answers : List ℤ) (ws : List (Option ℤ)) → next_of_run r ≡ Ends answers → trace r ws
+    ≡ over_with [] (ended answers)
 at_end_trace (looks k go) answers ws h = absurd (cc h)
 at_end_trace (puts k v rest) answers ws h = absurd (cc h)
 at_end_trace (ends given) answers ws h = let e : given ≡ answers = cc h in ap (λ l. over_with [] (ended l)) e
@@ -229,7 +236,8 @@ pub past_end : (r : Run) (own : List Access) (answers : List ℤ) → AsRequeste
 past_end r own answers h e more =
     let is_end : next_of_run (left r own) ≡ Ends answers = sym (left_next r own h) ∙ e in
     let whole : trace r (values_read own ++ values_read more) ≡ following (olds own) (over_with [] (ended answers)) =
-    trace_left r own h (values_read more) ∙ ap (λ t. following (olds own) t) (at_end_trace (left r own) answers (values_read more) is_end) in
+    trace_left r own h (values_read more) ∙ ap (λ t. following (olds own) t)
+    (at_end_trace (left r own) answers (values_read more) is_end) in
     let long = length-append more own in
     let same = length-olds own in
     let few : length (olds own) ≤ length (more ++ own) = omega arith in
@@ -270,7 +278,8 @@ one_done m a l o answers (Write k w) fit fits found (last, is, same) = (
 pub gone_done : (m : Contents) (own more : List Access) (o : Outcome) (answers : List ℤ) → AllFit more → FindsIn m (more ++ own)
     → DoneWith o answers (over m own) → DoneWith (with_accesses (map caller_access_of more) o) answers (over m (more ++ own))
 gone_done m own [] o answers fit f d = d
-gone_done m own (a ∷ more) o answers fit f d = one_done m a (more ++ own) (with_accesses (map caller_access_of more) o) answers fit.1.0 fit.1.1 fit.1.2 f.1
+gone_done m own (a ∷ more) o answers fit f d = one_done m a (more ++ own) (with_accesses (map caller_access_of more) o) answers
+    fit.1.0 fit.1.1 fit.1.2 f.1
     (gone_done m own more o answers fit.0 f.0 d)
 
 pub finds_own : (m : Contents) (more own : List Access) → FindsIn m (more ++ own) → FindsIn m own

@@ -34,10 +34,6 @@ empty_procedure = record { args = 0; body = empty }
 abbrev pub procedure_at : List ProcedureText → ℕ → Option ProcedureText
 procedure_at programs n = cond (nat_eq n 65535) (Some empty_procedure) (slice_get programs n)
 
--- what procedure n does
-abbrev pub runs_in : List ProcedureText → ℕ → List ℤ → Run
-runs_in programs n = run_if (procedure_at programs n)
-
 -- the rules of these procedures and limits
 abbrev pub rules_from : List ProcedureText → Limits → Rules
 rules_from programs limits = record { procedures = procedure_at programs; limits = limits }

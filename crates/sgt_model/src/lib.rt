@@ -84,6 +84,6 @@ pub use limits::{Asks, Limits, MOST_BEGINS, MOST_LIVE};
 pub use procedure::{Cond, EMPTY_PROCEDURE, Expr, Procedure, Statement};
 pub use refinement::{calls_simulate, new_is_empty, nexts_agree, states_are_sound, verdicts_agree};
 pub use reply::{Cause, Fate, Reply};
-pub use short_reply::{ReplyLists, ShortCause, ShortFate, ShortReply};
+pub use short_reply::{ReplyLists, ShortCause, ShortFate, ShortReply, answers_of, tids_of};
 pub use tid::Tid;
 pub use tids::Tids;

@@ -260,8 +260,8 @@ impl Reply {
     }
 }
 
-// A list of these answers.
-fn answers_of(items: &[i64]) -> Answers
+/// The list of these answers.
+pub fn answers_of(items: &[i64]) -> Answers
     requires { length items.now ≤ 8 }
     ensures { result ≡ items.now }
 {
@@ -271,8 +271,8 @@ fn answers_of(items: &[i64]) -> Answers
     }
 }
 
-// A list of these transactions.
-fn tids_of(items: &[Tid]) -> Tids
+/// The list of these transactions.
+pub fn tids_of(items: &[Tid]) -> Tids
     requires { length items.now ≤ 32 }
     ensures { result ≡ items.now }
 {

@@ -9,9 +9,9 @@ use Rattle.sgt_model.specs.Syntax as text
 use Rattle.sgt_model.specs.Ways.{Way, onto}
 use Rattle.sgt_model.specs.Ways as way
 use Rattle.sgt_proc.specs.declared.flaw.Flaw.{Flaw}
-use Rattle.sgt_proc.specs.declared.flaw.Flaw.TheVariants.{HighRegister, NoArgument, HighTable, BadCode, BadLiteral}
+use Rattle.sgt_proc.specs.declared.flaw.Flaw.TheVariants.{HighRegister, NoArgument, HighTable, BadCode, ManyArguments, BadLiteral}
 use Rattle.sgt_proc.specs.declared.numbers.Number.{Number}
-use Rattle.sgt_proc.specs.declared.numbers.Number.TheVariants.{Register, Argument, Table, Code, Literal}
+use Rattle.sgt_proc.specs.declared.numbers.Number.TheVariants.{Register, Argument, Table, Code, Literal, Arguments}
 use Rattle.sgt_proc.specs.Flaws.{in_expr, in_cond, in_block}
 use Rattle.sgt_proc.specs.NumberFlaws.{is_bad}
 
@@ -85,6 +85,7 @@ IsAllowed args (Argument n) = n < args
 IsAllowed args (Table n) = n ≤ 7
 IsAllowed args (Code n) = (1 ≤ n) × (n ≤ 999)
 IsAllowed args (Literal n) = IsValue n
+IsAllowed args (Arguments n) = n ≤ 4
 
 pub value_from : (v : ℤ) → is_value v ≡ true → IsValue v
 value_from v e = grind arith
@@ -96,4 +97,5 @@ allowed_number args (Table n) h = let e : nat_lt 7 n ≡ false = h HighTable in 
 allowed_number args (Code n) h =
     let p = or_parts (nat_eq n 0) (nat_lt 999 n) (h BadCode) in
     (grind (arith, nat_tests, p.0), grind (arith, nat_tests, p.1))
+allowed_number args (Arguments n) h = let e : nat_lt 4 n ≡ false = h ManyArguments in grind (arith, nat_tests, e)
 allowed_number args (Literal n) h = let e : not (is_value n) ≡ false = h BadLiteral in value_from n (grind (arith, e))

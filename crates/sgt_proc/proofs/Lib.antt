@@ -1,6 +1,7 @@
 pub mod StatementTexts
 pub mod Ifs
 pub mod StatementLists
+pub mod FirstPlaces
 pub mod Caps
 pub mod AllFlaws
 pub mod Clean

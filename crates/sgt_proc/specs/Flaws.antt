@@ -7,7 +7,7 @@ use Rattle.sgt_model.specs.Ways as way
 use Rattle.sgt_proc.specs.declared.flaw.Flaw.{Flaw}
 use Rattle.sgt_proc.specs.declared.flaw.Flaw.TheVariants.{HighRegister, UnsetRegister, NoArgument, HighTable, TooLong, TooDeep, ManyAnswers, BadCode, ManyArguments, BadLiteral}
 use Rattle.sgt_proc.specs.declared.numbers.Number.{Number}
-use Rattle.sgt_proc.specs.declared.numbers.Number.TheVariants.{Register, Argument, Table, Code, Literal}
+use Rattle.sgt_proc.specs.declared.numbers.Number.TheVariants.{Register, Argument, Table, Code, Literal, Arguments}
 
 -- whether it holds for some number in an expression
 abbrev pub in_expr : (Number → Bool) → ExprText → Bool
@@ -61,6 +61,11 @@ bad_code _ = false
 abbrev pub bad_literal : Number → Bool
 bad_literal (Literal n) = not (is_value n)
 bad_literal _ = false
+
+-- more than 4 arguments
+abbrev pub many_arguments : Number → Bool
+many_arguments (Arguments n) = nat_lt 4 n
+many_arguments _ = false
 
 -- an expression uses the register
 abbrev pub uses : ℕ → ExprText → Bool

@@ -1,6 +1,7 @@
 pub mod Nexts
 pub mod Flaws
 pub mod NumberFlaws
+pub mod FlawPlaces
 pub mod Dataflow
 pub mod Sound
 pub mod Paths

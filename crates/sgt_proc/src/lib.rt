@@ -1,4 +1,5 @@
-//! The procedure language: `check` finds flaws in a procedure, and a procedure without flaws reports its next step.
+//! The procedure language: `check` finds flaws in a procedure, [`Flawed::place`] says where one is, and a procedure
+//! without flaws reports its next step.
 //!
 //! The crate makes no access itself. A `Cursor` stands before a procedure's next access, reports it, and continues
 //! after it once it was made. `Checked::next` returns the same from the start, given what the reads returned so far.
@@ -19,6 +20,7 @@ mod checked;
 mod cursor;
 mod depths;
 mod flaw;
+mod flaw_place;
 mod laws;
 mod next;
 mod numbers;
@@ -32,6 +34,7 @@ pub use checked::{Checked, check};
 pub use cursor::Cursor;
 pub use depths::DEEPEST;
 pub use flaw::{Flaw, Flawed, MOST_ARGUMENTS};
+pub use flaw_place::FlawPlace;
 pub use laws::flawless_is_sound;
 pub use next::{Ahead, Next};
 pub use numbers::{LAST_CODE, LAST_REGISTER};

@@ -3,9 +3,9 @@ ghost use Rattle.std.specs.Prelude.{◌≡◌};
 ghost use Rattle.sgt_model.specs.Syntax.{empty};
 ghost use Rattle.sgt_model.specs.ProcedureTexts.{expr_text, cond_text, in_front, block_of};
 ghost use Rattle.sgt_proc.specs.Flaws.{in_expr, in_cond, in_block};
-ghost use Rattle.sgt_proc.specs.NumberFlaws.{is_bad};
+ghost use Rattle.sgt_proc.specs.NumberFlaws.{is_bad, value_of};
 
-use crate::flaw::Flaw;
+use crate::flaw::{Flaw, MOST_ARGUMENTS};
 use sgt_model::{Cond, Expr, LAST_TABLE, Statement, is_value};
 
 /// The greatest number of a register.
@@ -22,6 +22,23 @@ pub enum Number {
     Table(u8),
     Code(u16),
     Literal(i64),
+    /// How many arguments the procedure takes.
+    Arguments(u8),
+}
+
+impl Number {
+    /// The number itself.
+    pub fn value(self) -> i64
+        ensures { result ≡ value_of self }
+    {
+        match self {
+            Number::Register(n) | Number::Argument(n) | Number::Table(n) | Number::Arguments(n) => {
+                i64::from(n)
+            }
+            Number::Code(n) => i64::from(n),
+            Number::Literal(n) => n,
+        }
+    }
 }
 
 /// The rule that no number in a text may break: none has this flaw, in a procedure that takes this many arguments.
@@ -32,7 +49,7 @@ pub struct Rule {
 }
 
 impl Rule {
-    fn is_broken(self, number: Number) -> bool
+    pub fn is_broken(self, number: Number) -> bool
         ensures { result ≡ is_bad self.flaw self.args number }
     {
         match (self.flaw, number) {
@@ -41,6 +58,7 @@ impl Rule {
             (Flaw::HighTable, Number::Table(n)) => n > LAST_TABLE,
             (Flaw::BadCode, Number::Code(n)) => n == 0 || n > LAST_CODE,
             (Flaw::BadLiteral, Number::Literal(n)) => !is_value(n),
+            (Flaw::ManyArguments, Number::Arguments(n)) => n > MOST_ARGUMENTS,
             _ => false,
         }
     }

@@ -23,7 +23,7 @@ pub fn uses_unset(body: &[Statement]) -> bool
 /// Whether the register is live before the statements: on some path it is used before it is set. `following` says
 /// whether it is live after them.
 #[cycle(live)]
-fn is_live(statements: &[Statement], register: u8, following: bool) -> bool
+pub fn is_live(statements: &[Statement], register: u8, following: bool) -> bool
     ensures { LiveBefore register (block_of statements.now) following result }
 {
     let mut live = following;

@@ -1,4 +1,4 @@
-//! Replies as lines with one object of JSON each, for programs that read them: `{"reply":"started","transaction":0}`.
+//! Replies as lines with one object of JSON each, for programs that read them: `{"transaction":0,"reply":"started"}`.
 //!
 //! - [`append_reply_object`] writes a reply, [`append_cut_object`] and [`append_still_live_object`] the answer to a cut.
 //! - [`append_pieces`] writes a text from pieces: words, numbers and lists of numbers. What else is written as JSON is made
@@ -7,7 +7,7 @@
 //! `specs/ReplyObjects.antt` says what each object holds. The lines for a person are in `sgt_format`.
 //!
 //! ```
-//! append_reply_object(&mut text, &Reply::Started(Tid(0)))?; // {"reply":"started","transaction":0}
+//! append_reply_object(&mut text, &Event::Step(Tid(0)), &Reply::Ended)?; // {"transaction":0,"reply":"ended"}
 //! ```
 #![tactic(auto)]
 

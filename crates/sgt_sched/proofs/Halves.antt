@@ -58,6 +58,14 @@ module _ (t : ℕ) where
       let all = nowhere rest (λ i d below at. none (suc i) d (omega (arith, below)) at) in
       first_is_not q (position_or_len (has_number t) rest) (λ e. none 0 q (omega arith) e) ∙ omega (arith, all)
 
+  -- where it stands, it is found
+  pub index_seen : (live : List (ℕ × Progress)) (i : ℕ) (d : ℕ × Progress) → Rising (numbers live) → i < length live
+      → (get_or live i d).0 ≡ t → position (has_number t) live ≡ Some i
+  index_seen live i d r below at =
+      let n = stands live i d r below at in
+      ap (λ b. cond b (Some (position_or_len (has_number t) live)) None)
+      (lt-ltb (position_or_len (has_number t) live) (length live) (omega (arith, n, below))) ∙ ap Some n
+
   -- the comparisons with t rise along the list, as the search asks
   comparisons_rise : (live : List (ℕ × Progress)) → Rising (numbers live)
       → IsNonDecreasingBy (λ (y : ℕ × Progress). ordering_index (nat_cmp y.0 t)) live

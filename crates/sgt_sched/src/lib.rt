@@ -21,6 +21,7 @@ mod follow;
 mod laws;
 mod leave;
 mod live;
+mod marks;
 mod operation;
 mod procedure_table;
 mod reads;

@@ -1,9 +1,10 @@
 //! The list of the live transactions.
-ghost use Rattle.std.specs.Prelude.{◌≡◌, ◌≤◌, [], ◌∷◌, ◌++◌, length, Some, OnOk, OnErr, position};
+ghost use Rattle.std.specs.Prelude.{◌≡◌, ◌≤◌, [], ◌∷◌, ◌++◌, length, IsTrue, Some, OnOk, OnErr, position};
 ghost use Rattle.sgt_model.specs.Paths.{Rising};
 ghost use Rattle.sgt_sched.specs.LiveList.{numbers, has_number, progress_at, started, with_look, with_store, changed, others_live};
 ghost use Rattle.sgt_sched.specs.SchedulerView.{IsAlong};
 
+use crate::marks::Marks;
 use crate::procedure_table::ProcedureTable;
 use crate::running::Running;
 use sgt_model::{Args, NoMemory, Tid, Tids};
@@ -20,6 +21,8 @@ pub struct Live {
     // The live ones, then places to use again.
     running: Vec<Running>,
     count: usize,
+    // Where a live one mostly is.
+    marks: Marks,
     alloc: Global,
 }
 
@@ -47,6 +50,7 @@ impl Live {
         Live {
             running: Vec::new(alloc),
             count: 0,
+            marks: Marks::new(),
             alloc,
         }
     }
@@ -78,8 +82,48 @@ impl Live {
         tids
     }
 
-    /// The index of the transaction, if it is live. The list is searched by halves.
+    /// The index of the transaction, if it is live.
+    #[inline(always)]
     pub fn index(&self, t: Tid) -> Option<usize>
+        requires rising { Rising (numbers self.now) }
+        ensures { result ≡ position (has_number t) self.now }
+    {
+        if self.has_at(0, t) {
+            return Some(0);
+        }
+        self.index_by_marks(t)
+    }
+
+    // The same. The index is guessed first. This stands apart, since the only live transaction does not come here.
+    #[inline(never)]
+    fn index_by_marks(&self, t: Tid) -> Option<usize>
+        requires rising { Rising (numbers self.now) }
+        ensures { result ≡ position (has_number t) self.now }
+    {
+        let guess = self.marks.guess(t);
+        if self.has_at(guess, t) {
+            return Some(guess);
+        }
+        self.search(t)
+    }
+
+    // Whether the transaction is live and has this index.
+    #[inline(always)]
+    fn has_at(&self, index: usize, t: Tid) -> bool
+        requires rising { Rising (numbers self.now) }
+        ensures { IsTrue result → position (has_number t) self.now ≡ Some index }
+    {
+        let live = self.live();
+        if index >= live.len() {
+            return false;
+        }
+        let running = &live[index];
+        running.tid == t
+    }
+
+    // The index of the transaction, if it is live. The list is searched by halves.
+    #[inline(never)]
+    fn search(&self, t: Tid) -> Option<usize>
         requires rising { Rising (numbers self.now) }
         ensures { result ≡ position (has_number t) self.now }
     {
@@ -111,10 +155,12 @@ impl Live {
     {
         if self.count < self.running.len() {
             self.running[self.count].restart(t, procedure, checked, args);
+            self.marks.set(self.count, t);
             self.count += 1;
             return Ok(());
         }
         add(&mut self.running, self.alloc, t, procedure, checked, args)?;
+        self.marks.set(self.count, t);
         self.count += 1;
         Ok(())
     }
@@ -139,8 +185,7 @@ impl Live {
         self.running[index].store(procedures);
     }
 
-    /// Removes the transaction, which has ended. Its place is kept after the others, which are moved in one block. It
-    /// allocates nothing.
+    /// Removes the transaction, which has ended. It allocates nothing.
     pub fn remove(&mut self, t: Tid)
         requires rising { Rising (numbers self.old) }
         ensures { self.new ≡ others_live t self.old }
@@ -148,9 +193,20 @@ impl Live {
         let Some(index) = self.index(t) else {
             return;
         };
-        if index + 1 < self.count {
+        self.remove_at(t, index);
+    }
+
+    /// The same, if it was live and had this index. Its place is kept after the others, which are moved in one block.
+    pub fn remove_at(&mut self, _t: Tid, index: usize)
+        requires rising { Rising (numbers self.old) }
+        requires at { position (has_number _t) self.old ≡ Some index }
+        ensures { self.new ≡ others_live _t self.old }
+    {
+        let count = self.count;
+        if index + 1 < count {
             let ended = self.running.remove(index);
             self.running.push_reserved(ended);
+            self.marks.remove(index);
         }
         self.count -= 1;
     }

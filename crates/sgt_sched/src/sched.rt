@@ -163,6 +163,13 @@ impl<R: Records, A: Accesses, G: Graph> Sched<R, A, G> {
         self.live.len()
     }
 
+    /// How many transactions may be live, and be started, and when codes are reported.
+    pub fn limits(&self) -> Limits
+        ensures { result ≡ (parts self.now).limits }
+    {
+        self.limits
+    }
+
     /// The records: the committed values, and above them what the live transactions have written.
     pub fn records(&self) -> &R
         ensures { result.now ≡ (parts self.now).records }
@@ -197,6 +204,7 @@ impl<R: Records, A: Accesses, G: Graph> Sched<R, A, G> {
     }
 
     // The index of the transaction among the live ones, if it is live.
+    #[inline(always)]
     fn index(&self, t: Tid) -> Option<usize>
         ensures live { IsSome result → (state self.now).nodes t ≡ true }
         ensures unended { IsSome result ↔ IsUnended (state self.now) t }
@@ -216,8 +224,8 @@ impl<R: Records, A: Accesses, G: Graph> Sched<R, A, G> {
         }
     }
 
-    // What the procedure of the transaction does next, without its answers, if it is live.
-    fn ahead(&self, t: Tid) -> Option<Ahead>
+    /// What the procedure of the transaction does next, if it is live.
+    pub fn ahead(&self, t: Tid) -> Option<Ahead>
         ensures live { IsSome result → (state self.now).nodes t ≡ true }
         ensures unended { IsSome result ↔ IsUnended (state self.now) t }
         ensures next { IfSome result (λ ahead. next_by (state self.now) t ahead ≡ next_left ((state self.now).left t)) }

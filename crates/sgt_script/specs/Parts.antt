@@ -45,7 +45,7 @@ answer_text History (Replied e) = operations_text e.event e.reply
 answer_text History (WasCut entries) = cut_comment entries
 answer_text History StillLive = []
 answer_text Records a = []
-answer_text Json (Replied e) = reply_object e.reply
+answer_text Json (Replied e) = reply_object e.event e.reply
 answer_text Json (WasCut entries) = cut_object entries
 answer_text Json StillLive = still_live_object
 

@@ -5,13 +5,13 @@ ghost use Rattle.std.specs.Prelude.{◌+◌, ◌^◌, ◌<◌};
 use crate::coded::append_coded;
 use crate::live_text::append_live;
 use crate::observer::Observer;
-use crate::pending::pending_at;
+use crate::pending::pending_by;
 use crate::refused::append_refused;
 use sgt_assembly::SgtEngine;
-use sgt_explain::{IndexedHistory, Words, append_explanation};
+use sgt_explain::{IndexedHistory, Pending, Words, append_explanation};
 use sgt_input::{Lines, Sink, write_all};
 use sgt_log::History;
-use sgt_model::NoMemory;
+use sgt_model::{Event, NoMemory};
 use std::alloc::Global;
 use std::marker::Model;
 
@@ -32,8 +32,12 @@ pub(crate) struct Explainer<'a, E: Sink> {
     has_lost: bool,
     /// The entries since the last cut. If memory ran out for one, they end before it.
     history: IndexedHistory,
+    /// Whether entries were cut off before these.
+    is_after_cut: bool,
     /// The line number of each entry. If memory ran out for one, the list ends before it.
     lines: Vec<u64>,
+    /// The access that the transaction of the newest event was about to make.
+    pending: Option<Pending>,
     /// The explanations that are not yet written.
     text: Vec<u8>,
 }
@@ -60,7 +64,9 @@ impl<'a, E: Sink> Explainer<'a, E> {
             has_failed: false,
             has_lost: false,
             history: IndexedHistory::new(alloc),
+            is_after_cut: false,
             lines: Vec::new(alloc),
+            pending: None,
             text: Vec::new(alloc),
         }
     }
@@ -90,6 +96,9 @@ impl<'a, E: Sink> Explainer<'a, E> {
     // Records the line of the entry at a position, if the lines of all entries before it are recorded. Lines recorded
     // from this position on belong to a history that was cut off.
     fn note_line(&mut self, place: usize, line: u64) {
+        if place == 0 && !self.lines.is_empty() {
+            self.is_after_cut = true;
+        }
         self.lines.truncate(place);
         if self.lines.len() == place {
             let _ = self.lines.push(line);
@@ -110,7 +119,7 @@ impl<'a, E: Sink> Explainer<'a, E> {
 
     // Gathers the explanation of the entry at a position, if it aborts a transaction.
     fn explain_at(&mut self, engine: &SgtEngine, place: usize) {
-        if aborts_at(engine.history(), place) && self.append(engine, place).is_err() {
+        if aborts_at(engine.history(), place) && self.append(place).is_err() {
             self.has_lost = true;
         }
     }
@@ -126,30 +135,33 @@ impl<'a, E: Sink> Explainer<'a, E> {
 
     // Gathers why the newest entry, of this line, is refused, if it is.
     fn explain_refusal(&mut self, engine: &SgtEngine, line: u64) {
-        if append_refused(&mut self.text, engine, line).is_err() {
+        if append_refused(&mut self.text, engine, line, self.is_after_cut).is_err() {
             self.has_lost = true;
         }
     }
 
     // Appends that explanation. If an allocation fails, or failed for an entry, it appends nothing.
-    fn append(&mut self, engine: &SgtEngine, place: usize) -> Result<(), NoMemory> {
+    fn append(&mut self, place: usize) -> Result<(), NoMemory> {
         if self.history.len() <= place {
             return Err(NoMemory);
         }
-        let procedures = engine.sched().procedures();
-        let pending = pending_at(self.alloc, &self.history, place, procedures)?;
         append_explanation(
             &mut self.text,
             &self.history,
             place,
-            pending,
+            self.pending,
             self.lines.as_slice(),
         )
     }
 }
 
 impl<E: Sink> Observer for Explainer<'_, E> {
-    fn answered(&mut self, engine: &SgtEngine, line: u64) {
+    fn before(&mut self, engine: &SgtEngine, event: &Event) {
+        self.pending = pending_by(engine, event);
+    }
+
+    fn answered(&mut self, engine: &SgtEngine, lines: &Lines) {
+        let line = lines.number();
         let entries = engine.history().len();
         if entries > 0 {
             self.note_line(entries - 1, line);
@@ -160,10 +172,8 @@ impl<E: Sink> Observer for Explainer<'_, E> {
         }
     }
 
-    fn written(&mut self, lines: &Lines) {
-        if !lines.has_line() {
-            self.write_out();
-        }
+    fn written(&mut self, _lines: &Lines) {
+        self.write_out();
     }
 
     fn ended(&mut self, engine: &SgtEngine) {

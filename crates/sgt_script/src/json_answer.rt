@@ -2,16 +2,21 @@
 ghost use Rattle.std.specs.Prelude.{◌≡◌, ◌++◌, OnOk, OnErr};
 ghost use Rattle.sgt_reply_json.specs.ReplyObjects.{cut_object, reply_object, still_live_object};
 
-use sgt_model::{NoMemory, Reply};
+use sgt_model::{Event, NoMemory, Reply};
 use sgt_reply_json::{append_cut_object, append_reply_object, append_still_live_object};
 
-/// Appends a reply.
-pub(crate) fn append_reply_json(text: &mut Vec<u8>, reply: &Reply) -> Result<(), NoMemory>
-    ensures text { OnOk result (text.new.items ≡ text.old.items ++ reply_object reply.now) }
+/// Appends the reply to an event.
+pub(crate) fn append_reply_json(
+    text: &mut Vec<u8>,
+    event: &Event,
+    reply: &Reply,
+) -> Result<(), NoMemory>
+    ensures text { OnOk result
+        (text.new.items ≡ text.old.items ++ reply_object event.now reply.now) }
     ensures kept { OnErr result (text.new.items ≡ text.old.items) }
 {
     let mut line = Vec::new(*text.allocator());
-    append_reply_object(&mut line, reply)?;
+    append_reply_object(&mut line, event, reply)?;
     text.extend_from_slice(line.as_slice())?;
     Ok(())
 }

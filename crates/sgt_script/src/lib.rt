@@ -17,6 +17,7 @@
 mod coded;
 mod explainer;
 mod json_answer;
+mod last_line;
 mod live_text;
 mod observer;
 mod options;

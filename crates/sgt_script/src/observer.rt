@@ -2,13 +2,17 @@
 
 use sgt_assembly::SgtEngine;
 use sgt_input::Lines;
+use sgt_model::Event;
 
 /// Follows a run. It changes nothing of the run and causes no fault.
 pub(crate) trait Observer: Drop {
-    /// The engine has answered the event of the line with this number: that event is the newest entry.
-    fn answered(&mut self, engine: &SgtEngine, line: u64);
+    /// The engine is about to answer this event.
+    fn before(&mut self, engine: &SgtEngine, event: &Event);
 
-    /// Each answer that must be written before the next read is written.
+    /// The engine has answered the event of the line returned last: that event is the newest entry.
+    fn answered(&mut self, engine: &SgtEngine, lines: &Lines);
+
+    /// The next line has not been read, and each answer that must be written before that is written.
     fn written(&mut self, lines: &Lines);
 
     /// All lines are answered.
@@ -20,7 +24,9 @@ pub(crate) trait Observer: Drop {
 pub(crate) struct Unobserved;
 
 impl Observer for Unobserved {
-    fn answered(&mut self, _engine: &SgtEngine, _line: u64) {}
+    fn before(&mut self, _engine: &SgtEngine, _event: &Event) {}
+
+    fn answered(&mut self, _engine: &SgtEngine, _lines: &Lines) {}
 
     fn written(&mut self, _lines: &Lines) {}
 

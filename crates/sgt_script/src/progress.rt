@@ -4,6 +4,7 @@ use crate::observer::Observer;
 use crate::options::Options;
 use sgt_assembly::SgtEngine;
 use sgt_input::Lines;
+use sgt_model::Event;
 use std::io::Eprint;
 use std::time::{Clock, Duration, Instant};
 
@@ -66,14 +67,14 @@ impl<W: Clock + Eprint> Progress<'_, W> {
 }
 
 impl<W: Clock + Eprint> Observer for Progress<'_, W> {
-    fn answered(&mut self, _engine: &SgtEngine, _line: u64) {
+    fn before(&mut self, _engine: &SgtEngine, _event: &Event) {}
+
+    fn answered(&mut self, _engine: &SgtEngine, _lines: &Lines) {
         self.events = self.events.saturating_add(1);
     }
 
     fn written(&mut self, lines: &Lines) {
-        if !lines.has_line() {
-            self.report(lines);
-        }
+        self.report(lines);
     }
 
     fn ended(&mut self, _engine: &SgtEngine) {}

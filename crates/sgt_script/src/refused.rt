@@ -7,30 +7,40 @@ use sgt_format::append_numbered;
 use sgt_model::{Entry, Event, NoMemory};
 
 /// Appends why the newest entry, of this line of the script, is refused, as
-/// `line 2: DepositChecking takes 2 arguments, found 1`. If it is not refused, it appends nothing.
+/// `line 2: DepositChecking takes 2 arguments, found 1`. If it is not refused, it appends nothing. After a cut,
+/// transactions are numbered anew.
 ///
 /// `NoMemory` if an allocation failed; then the text is unchanged.
 pub(crate) fn append_refused(
     text: &mut Vec<u8>,
     engine: &SgtEngine,
     line: u64,
+    is_after_cut: bool,
 ) -> Result<(), NoMemory>
     ensures kept { take (vec_len text.old) text.new.items ≡ text.old.items }
     ensures err { OnErr result (text.new.items ≡ text.old.items) }
 {
     let mut words = Vec::new(*text.allocator());
     if let Some(refusal) = newest_refusal(engine) {
-        append_line(&mut words, line, &refusal)?;
+        append_line(&mut words, line, is_after_cut, &refusal)?;
     }
     text.extend_from_slice(words.as_slice())?;
     Ok(())
 }
 
 // Appends the line.
-fn append_line(text: &mut Vec<u8>, line: u64, refusal: &Refusal) -> Result<(), NoMemory> {
+fn append_line(
+    text: &mut Vec<u8>,
+    line: u64,
+    is_after_cut: bool,
+    refusal: &Refusal,
+) -> Result<(), NoMemory> {
     append_numbered(text, b"line ", line)?;
     text.extend_from_slice(b": ")?;
     append_refusal(text, refusal)?;
+    if is_after_cut && matches!(refusal, Refusal::Unknown(_)) {
+        text.extend_from_slice(b" since the cut")?;
+    }
     text.extend_from_slice(b"\n")?;
     Ok(())
 }

@@ -59,6 +59,7 @@ pub fn run_script<S: Source, T: Sink>(
         Output::Replies,
         DEFAULT_BYTES,
         &mut Unobserved,
+        &mut None,
     )
 }
 
@@ -87,6 +88,9 @@ pub fn run_script<S: Source, T: Sink>(
 /// out, some are left out, and a line at the end says so. Neither is a fault. An explanation costs passes over what its
 /// transactions did, not over the whole history.
 ///
+/// `line` gets a copy of the line of the fault, if the fault has one, and of line 1 otherwise: for a second look that
+/// explains the fault. It gets none if memory runs out.
+///
 /// # Errors
 ///
 /// As [`run_script`], with the text of the output mode in place of the replies. The explanations of all answered
@@ -99,6 +103,7 @@ pub fn run<S: Source, T: Sink, E: Sink, W: Clock + Eprint>(
     options: Options,
     explanations: Option<&mut E>,
     words: &Words,
+    line: &mut Option<Vec<u8>>,
 ) -> Result<(), Fault>
     requires reading { S.failures source.old + 1 < 2 ^ 64 }
     requires writing { T.failures sink.old + 1 < 2 ^ 64 }
@@ -115,17 +120,12 @@ pub fn run<S: Source, T: Sink, E: Sink, W: Clock + Eprint>(
     let Options { most, output, .. } = options;
     let progress = Progress::of(rt, options);
     let Some(errors) = explanations else {
-        return match progress {
-            Some(mut progress) => run_observed(alloc, source, sink, output, most, &mut progress),
-            None => run_observed(alloc, source, sink, output, most, &mut Unobserved),
-        };
+        let mut watch = Watch::<W, E>::new(None, progress);
+        return run_observed(alloc, source, sink, output, most, &mut watch, line);
     };
     let explainer = Explainer::new(alloc, errors, words);
-    let mut watch = Watch {
-        explainer,
-        progress,
-    };
-    let ran = run_observed(alloc, source, sink, output, most, &mut watch);
+    let mut watch = Watch::new(Some(explainer), progress);
+    let ran = run_observed(alloc, source, sink, output, most, &mut watch, line);
     watch.finish();
     ran
 }

@@ -16,6 +16,7 @@ ghost use Rattle.sgt_script.specs.Beginnings.{AppendsPart, Begins, IsStop, LineR
 ghost use Rattle.sgt_script.specs.Outcomes.{CountsReads, CountsWrites, IsCutOff, IsStopped, IsWhole};
 
 use crate::json_answer::{append_cut_json, append_reply_json, append_still_live_json};
+use crate::last_line::{copy_of_last, keep_if};
 use crate::observer::Observer;
 use crate::output::Output;
 use json::Scratch;
@@ -127,11 +128,26 @@ fn answer_event(
     match engine.answer(event, reply) {
         Ok(()) => match output {
             Output::Replies => append_short_reply(text, reply, engine.reply_lists()),
-            Output::History => append_newest(engine, text),
-            Output::Records => Ok(()),
-            Output::Json => append_newest_json(engine, text),
+            _ => append_other(engine, output, text),
         },
         Err(NoMemory) => Err(NoMemory),
+    }
+}
+
+/// Appends what an output mode says of the newest entry, if that is not the line of its reply.
+#[inline(never)]
+fn append_other(engine: &SgtEngine, output: Output, text: &mut Vec<u8>) -> Result<(), NoMemory>
+    requires entry { 0 < length engine.now.past }
+    requires other { output ≢ Output.Replies }
+    ensures answered { OnOk result ((entry : Entry) → (past : List Entry) → (engine.now.past ≡ entry ∷ past)
+        → text.new.items ≡ text.old.items ++ answer_text output (Replied entry)) }
+    ensures kept { OnErr result (text.new.items ≡ text.old.items) }
+{
+    match output {
+        Output::Replies => unreachable!(),
+        Output::History => append_newest(engine, text),
+        Output::Records => Ok(()),
+        Output::Json => append_newest_json(engine, text),
     }
 }
 
@@ -159,7 +175,7 @@ fn append_newest_json(engine: &SgtEngine, text: &mut Vec<u8>) -> Result<(), NoMe
     ensures kept { OnErr result (text.new.items ≡ text.old.items) }
 {
     match engine.history().last() {
-        Some(entry) => append_reply_json(text, &entry.reply),
+        Some(Entry { event, reply }) => append_reply_json(text, &event, &reply),
         None => unreachable!(),
     }
 }
@@ -261,11 +277,12 @@ fn flush<T: Sink>(sink: &mut T, gathered: &mut Vec<u8>) -> Result<(), Fault>
     Ok(())
 }
 
-/// Writes the gathered text if the next line has not arrived.
-fn flush_before_read<T: Sink>(
+/// Writes the gathered text if the next line has not arrived. Then the observer is told.
+fn flush_before_read<T: Sink, X: Observer>(
     lines: &Lines,
     sink: &mut T,
     gathered: &mut Vec<u8>,
+    observer: &mut X,
 ) -> Result<(), Fault>
     requires { T.failures sink.old + 1 < 2 ^ 64 }
     ensures bytes { OnOk result ((bytes : List ℕ)
@@ -280,7 +297,9 @@ fn flush_before_read<T: Sink>(
     if lines.has_line() {
         return Ok(());
     }
-    flush(sink, gathered)
+    flush(sink, gathered)?;
+    observer.written(lines);
+    Ok(())
 }
 
 /// Writes the gathered text when a run stops at a fault. Returns the fault, or `Writing` if the write failed.
@@ -297,7 +316,7 @@ fn stop<T: Sink>(sink: &mut T, gathered: &mut Vec<u8>, fault: Fault) -> Fault
     }
 }
 
-/// Answers the line with this number, and appends the text of the answer.
+/// Answers the line returned last, and appends the text of the answer.
 #[inline(always)]
 fn answer_line<X: Observer>(
     alloc: Global,
@@ -305,7 +324,7 @@ fn answer_line<X: Observer>(
     kind: LineKind,
     event: &Event,
     reply: &mut ShortReply,
-    number: u64,
+    lines: &Lines,
     output: Output,
     text: &mut Vec<u8>,
     observer: &mut X,
@@ -316,8 +335,9 @@ fn answer_line<X: Observer>(
 {
     match kind {
         LineKind::Event => {
+            observer.before(engine, event);
             answer_event(engine, event, reply, output, text)?;
-            observer.answered(engine, number);
+            observer.answered(engine, lines);
             Ok(())
         }
         LineKind::Cut => answer_cut(alloc, engine, output, text),
@@ -370,8 +390,7 @@ fn answer_lines<S: Source, T: Sink, X: Observer>(
     let mut event = Event::Step(Tid(0));
     let mut reply = ShortReply::Unknown;
     loop {
-        flush_before_read(lines, sink, &mut gathered)?;
-        observer.written(lines);
+        flush_before_read(lines, sink, &mut gathered, observer)?;
         match next_script_line(alloc, &mut scratch, lines, source, &mut event) {
             Ok(Some(kind)) => match answer_line(
                 alloc,
@@ -379,7 +398,7 @@ fn answer_lines<S: Source, T: Sink, X: Observer>(
                 kind,
                 &event,
                 &mut reply,
-                lines.number(),
+                lines,
                 output,
                 &mut gathered,
                 observer,
@@ -453,11 +472,12 @@ pub(crate) fn run_opened<S: Source, T: Sink, X: Observer>(
 }
 
 /// Reads line 1 of an input of at most so many bytes, and returns the opening that it spells. Line 1 is then the line
-/// given last.
+/// given last. A copy of it is put into `line`.
 fn open_input<S: Source>(
     alloc: Global,
     source: &mut S,
     most: usize,
+    line: &mut Option<Vec<u8>>,
 ) -> Result<(Lines, Opening), Fault>
     requires countable { S.failures source.old + 1 < 2 ^ 64 }
     requires most { most ≤ 4294967296 }
@@ -478,12 +498,14 @@ fn open_input<S: Source>(
     if !lines.next_line(source)? {
         return Err(Fault::NoOpening);
     }
+    *line = copy_of_last(alloc, &lines);
     let opening = opening_of(alloc, 1, &lines)?;
     Ok((lines, opening))
 }
 
 /// Runs a script of at most so many bytes. Line 1 and the record lines after it make the initial database. Each later
 /// line is an event or a cut, and is answered. The output mode says what is written. The observer follows the run.
+/// `line` gets a copy of the line of the fault, or of line 1.
 ///
 /// # Errors
 ///
@@ -500,6 +522,7 @@ pub(crate) fn run_observed<S: Source, T: Sink, X: Observer>(
     output: Output,
     most: usize,
     observer: &mut X,
+    line: &mut Option<Vec<u8>>,
 ) -> Result<(), Fault>
     requires reading { S.failures source.old + 1 < 2 ^ 64 }
     requires writing { T.failures sink.old + 1 < 2 ^ 64 }
@@ -523,10 +546,16 @@ pub(crate) fn run_observed<S: Source, T: Sink, X: Observer>(
     opened_hold_values();
     replays_hold_values();
     replay_is_bank();
-    let (mut lines, opening) = open_input(alloc, source, most)?;
-    let opening = read_records(alloc, &mut lines, source, opening)?;
+    let (mut lines, opening) = open_input(alloc, source, most, line)?;
+    let opening = match read_records(alloc, &mut lines, source, opening) {
+        Ok(opening) => opening,
+        Err(fault) => {
+            *line = copy_of_last(alloc, &lines);
+            return Err(fault);
+        }
+    };
     let mut engine = open_engine(alloc, opening)?;
-    run_opened(
+    let ran = run_opened(
         alloc,
         &mut lines,
         source,
@@ -534,5 +563,7 @@ pub(crate) fn run_observed<S: Source, T: Sink, X: Observer>(
         &mut engine,
         output,
         observer,
-    )
+    );
+    keep_if(ran.is_err(), alloc, &lines, line);
+    ran
 }

@@ -8,7 +8,7 @@ use std::alloc::Global;
 use std::test::Fail;
 
 /// A transaction that appends the values to key 0.
-fn appender(alloc: Global, status: Status, values: &[u32]) -> Result<Transaction, NoMemory> {
+fn appender(alloc: Global, status: Status, values: &[u64]) -> Result<Transaction, NoMemory> {
     let mut operations = Vec::new(alloc);
     for value in values {
         operations.push(Operation::Append {
@@ -20,7 +20,7 @@ fn appender(alloc: Global, status: Status, values: &[u32]) -> Result<Transaction
 }
 
 /// A committed transaction that saw the values at key 0.
-fn reader(alloc: Global, seen: &[u32]) -> Result<Transaction, NoMemory> {
+fn reader(alloc: Global, seen: &[u64]) -> Result<Transaction, NoMemory> {
     let mut operations = Vec::new(alloc);
     operations.push(Operation::Read {
         key: 0,
@@ -33,7 +33,7 @@ fn reader(alloc: Global, seen: &[u32]) -> Result<Transaction, NoMemory> {
 }
 
 /// One appends 1 and 2, with the status, and another sees the values.
-fn one_reader(alloc: Global, status: Status, seen: &[u32]) -> Result<Vec<Transaction>, NoMemory> {
+fn one_reader(alloc: Global, status: Status, seen: &[u64]) -> Result<Vec<Transaction>, NoMemory> {
     let mut history = Vec::new(alloc);
     history.push(appender(alloc, status, [1, 2].as_slice())?)?;
     history.push(reader(alloc, seen)?)?;
@@ -119,9 +119,9 @@ fn unknown_transactions_with_reads(rt: HostRuntime) -> Result<(), Fail> {
 /// A committed transaction that appends the value to key 0, and saw these values before and after.
 fn around(
     alloc: Global,
-    before: &[u32],
-    value: u32,
-    after: &[u32],
+    before: &[u64],
+    value: u64,
+    after: &[u64],
 ) -> Result<Vec<Transaction>, NoMemory> {
     let mut operations = Vec::new(alloc);
     operations.push(Operation::Read {
@@ -185,8 +185,8 @@ fn operation(
     alloc: Global,
     number: u64,
     key: u32,
-    value: u32,
-    list: &mut Vec<u32>,
+    value: u64,
+    list: &mut Vec<u64>,
 ) -> Result<Operation, NoMemory> {
     if number % 3 == 0 {
         list.push(value)?;
@@ -204,7 +204,7 @@ fn drawn(alloc: Global, seed: u64) -> Result<Vec<Transaction>, NoMemory> {
     let mut history = Vec::new(alloc);
     let mut lists = (Vec::new(alloc), Vec::new(alloc));
     let mut number = next(seed);
-    for value in 0..5u32 {
+    for value in 0..5u64 {
         let mut operations = Vec::new(alloc);
         operations.push(operation(alloc, number, 0, value, &mut lists.0)?)?;
         number = next(number);

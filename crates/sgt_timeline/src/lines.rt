@@ -117,8 +117,11 @@ fn add_pairs(lines: &mut Vec<Line>, marks: &[Mark], pairs: &Pairs) -> Result<(),
     Ok(())
 }
 
-/// The line between two operations, if both have a mark.
+/// The line between two operations, if both have a mark. An operation that stands out alone has none.
 fn line_of(marks: &[Mark], kind: LineKind, earlier: usize, later: usize) -> Option<Line> {
+    if earlier == later {
+        return None;
+    }
     let from = mark_at(marks, earlier)?;
     let to = mark_at(marks, later)?;
     Some(route(kind, &from, &to, NEAREST))

@@ -6,7 +6,7 @@ use sgt_classes::{Edge, Violation};
 pub enum Highlight<'a> {
     /// Nothing does.
     Nothing,
-    /// The edges of a cycle, each with its two operations.
+    /// The edges of a cycle, each with its two operations. An edge from an operation to itself marks it, and has no line.
     Cycle(&'a [Edge]),
     /// The two operations of a violation.
     Violation(Violation),

@@ -5,7 +5,7 @@
 use std::os::raw::{c_char, c_void};
 
 /// `SGT_VERSION`: the version of the headers.
-pub const VERSION: &str = "0.3.0";
+pub const VERSION: &str = "0.3.1";
 
 pub const OK: u32 = 0;
 pub const NO_MEMORY: u32 = 1;
@@ -290,6 +290,7 @@ extern "C" {
     pub fn sgt_rows(engine: *const Engine, table: u64, number: i64, rows: *mut Row, capacity: usize, count: *mut u64) -> u32;
     pub fn sgt_records(engine: *const Engine, count: *mut u64) -> u32;
     pub fn sgt_live_tids(engine: *const Engine, tids: *mut u32, count: *mut u64) -> u32;
+    pub fn sgt_limits(engine: *const Engine, limits: *mut u64) -> u32;
     pub fn sgt_wrote(engine: *const Engine, tid: u32, wrote: *mut u32) -> u32;
     pub fn sgt_entries(engine: *const Engine, count: *mut u64) -> u32;
     pub fn sgt_entry(engine: *const Engine, place: u64, event: *mut Event, reply: *mut Reply) -> u32;
@@ -377,6 +378,7 @@ extern "C-unwind" {
         capacity: usize,
         count: *mut u64,
     ) -> u32;
+    pub fn sgt_shared_limits(shared: *mut Shared, limits: *mut u64) -> u32;
     pub fn sgt_shared_entries(shared: *mut Shared, count: *mut u64, part: *mut u64) -> u32;
     pub fn sgt_shared_drain(
         shared: *mut Shared,

@@ -1,11 +1,12 @@
 //! Turns of a cut, for C.
 ghost use Rattle.std.specs.Prelude.{◌≡◌, ◌≢◌, ◌<◌, cond, nat_eq, IfSome};
-ghost use Rattle.sgt_desk.specs.Desks.{state, without_call};
+ghost use Rattle.sgt_desk.specs.Desks.{state, is_busy, without_call};
 ghost use Rattle.sgt_c.specs.DeskStructs.{ask_in, desk_in, lent_state};
 ghost use Rattle.sgt_c.specs.DeskTurns.{IsRefused, IsTurn, MakesCut, OfDesks, WakesBy, cuts_now};
 ghost use Rattle.sgt_c.specs.Handles.{Visits};
 
 use crate::handle::Handle;
+use crate::held::Held;
 use crate::shared::ask_struct::{SgtAsk, ask_struct, read_ask};
 use crate::shared::desk_struct::SgtDesk;
 use crate::shared::lent::{Lent, give_back, lend};
@@ -89,10 +90,16 @@ pub extern "C" fn sgt_desk_cuts(
         return status::CLOSED;
     };
     let call = read_ask(ask);
-    let is_busy = held.engine.sched().live_count() > 0 || desk.committing > 0;
-    *cuts = u32::from(!call.saw_cut(held.part) && !is_busy);
+    *cuts = u32::from(!call.saw_cut(held.part) && !is_busy(&held, desk));
     engine.put(held);
     status::OK
+}
+
+/// Whether the history may not be cut off.
+pub fn is_busy(held: &Held, desk: &SgtDesk) -> bool
+    ensures { result ≡ is_busy (desk_in desk.now held.now) }
+{
+    held.engine.sched().live_count() > 0 || desk.committing > 0
 }
 
 /// Counts a call among those that wait for a cut no longer: its caller gives it up.

@@ -13,7 +13,7 @@ ghost use Rattle.sgt_sched.specs.LiveList.{has_number};
 ghost use Rattle.sgt_sched.specs.Operations.{next_by};
 ghost use Rattle.sgt_sched.specs.Scheduler.{parts, state, asks_of, Turns};
 
-use crate::leave::leave;
+use crate::leave::leave_at;
 use crate::sched::Sched;
 use sgt_access::Accesses;
 use sgt_commit::{decide, finish};
@@ -103,7 +103,7 @@ impl<R: Records, A: Accesses, G: Graph> Sched<R, A, G> {
     {
         lists.answers = self.live.at(t, index).answers().copied();
         finish(&mut self.records, &mut self.accesses, &mut self.graph, t);
-        leave(&mut self.live, &mut self.read_from, t);
+        leave_at(&mut self.live, &mut self.read_from, t, index);
         self.fates.end(t, ShortFate::Committed, &lists.cycle);
         ShortReply::Committed
     }

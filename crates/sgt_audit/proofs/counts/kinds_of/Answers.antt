@@ -1,12 +1,9 @@
-use Rattle.std.proofs.Common.{◌+◌, refl, ap, ◌∙◌, arith}
+use Rattle.std.proofs.Common.{◌+◌, ap, ◌∙◌, arith}
 use Rattle.std.specs.List.{count_by}
 use Rattle.std.proofs.lemmas.List.{take_all}
 use Rattle.sgt_audit.specs.AllOutcomes.{is_done, is_left, is_untaken, is_no_memory}
 use Rattle.sgt_audit.proofs.Nexts.{added, few}
 use Rattle.sgt_audit.proofs.counts.kinds_of.Goals as goal
-
-pub loop-outcome-init : goal.loop-outcome-init
-loop-outcome-init g c = record { done = refl; left = refl; untaken = refl; no_memory = refl }
 
 pub overflow_add-kinds : goal.overflow_add-kinds
 overflow_add-kinds g c =

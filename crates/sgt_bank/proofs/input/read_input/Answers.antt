@@ -28,37 +28,33 @@ returns-in_err-opening-clause-fault g c =
     (cut_left c.next_line.new.self (g.S.Source.rest c.next_line.new.source))
     explained.0 _ c.in_ok-lines.ensures (search rules) explained.1 explained.2 explained.3)
 
-pub returns-in_err-opening-2-clause-fault : goal.returns-in_err-opening-2-clause-fault
-returns-in_err-opening-2-clause-fault g c =
-    let failed : c.from_residual-in_err-opening-2.result ≡ Err c.in_err-opening-2.field-0.0 = search rules in
-    subst (λ r. IfErr r (λ f. IsOfInput f → Fails c.args.workers c.args.most (g.S.Source.rest c.args.source.now) f)) (sym failed)
-    (λ exact. fails-record c.args.workers c.args.most (g.S.Source.rest c.args.source.now) c.next_line.new.self.line _
+pub returns-in-Err-clause-fault : goal.returns-in-Err-clause-fault
+returns-in-Err-clause-fault g c = λ exact.
+    fails-record c.args.workers c.args.most (g.S.Source.rest c.args.source.now) c.next_line.new.self.line _
     (bad-record c.args.workers c.args.most c.in_ok-lines.lines (g.S.Source.rest c.args.source.now) c.next_line.new.self.line
     (cut_left c.next_line.new.self (g.S.Source.rest c.next_line.new.source)) c.in_ok-opening.opening c.next_line.new.self.number
-    _ c.in_ok-lines.ensures (search rules) c.in_ok-opening.ensures.opening (search rules) (c.in_err-opening-2.ensures.fault exact)))
+    _ c.in_ok-lines.ensures (search rules) c.in_ok-opening.ensures.opening (search rules) (c.in-Err.ensures.fault exact))
 
-pub returns-in_err-jobs-clause-fault : goal.returns-in_err-jobs-clause-fault
-returns-in_err-jobs-clause-fault g c =
-    let failed : c.from_residual-in_err-jobs.result ≡ Err c.in_err-jobs.field-0.0 = search rules in
-    subst (λ r. IfErr r (λ f. IsOfInput f → Fails c.args.workers c.args.most (g.S.Source.rest c.args.source.now) f)) (sym failed)
-    (λ exact. fails-following c.args.workers c.args.most (g.S.Source.rest c.args.source.now) c.next_line.new.self.line
+pub returns-clause-fault : goal.returns-clause-fault
+returns-clause-fault g c = λ exact.
+    fails-following c.args.workers c.args.most (g.S.Source.rest c.args.source.now) c.next_line.new.self.line
     (c.read_records.new.lines.number + 1) (cut_left c.read_records.new.lines (g.S.Source.rest c.read_records.new.source))
-    c.in_ok-opening-2.opening _
+    c.in-Ok.opening _
     (begun c.args.workers c.args.most c.in_ok-lines.lines (g.S.Source.rest c.args.source.now) c.next_line.new.self.line
     (cut_left c.next_line.new.self (g.S.Source.rest c.next_line.new.source))
-    (cut_left c.read_records.new.lines (g.S.Source.rest c.read_records.new.source)) c.in_ok-opening.opening c.in_ok-opening-2.opening
+    (cut_left c.read_records.new.lines (g.S.Source.rest c.read_records.new.source)) c.in_ok-opening.opening c.in-Ok.opening
     c.next_line.new.self.number c.read_records.new.lines.number c.in_ok-lines.ensures (search rules) c.in_ok-opening.ensures.opening
-    (search rules) c.in_ok-opening-2.ensures.filled c.in_ok-opening-2.ensures.limits c.in_ok-opening-2.ensures.procedures)
-    (c.in_err-jobs.ensures.fault exact))
+    (search rules) c.in-Ok.ensures.filled c.in-Ok.ensures.limits c.in-Ok.ensures.procedures)
+    (c.in-Err-read_jobs.ensures.fault exact)
 
-pub returns-clause-input : goal.returns-clause-input
-returns-clause-input g c =
+pub returns-in-Ok-read_jobs-clause-input : goal.returns-in-Ok-read_jobs-clause-input
+returns-in-Ok-read_jobs-clause-input g c =
     asks-all c.args.workers c.args.most (g.S.Source.rest c.args.source.now) c.next_line.new.self.line
     (c.read_records.new.lines.number + 1) (cut_left c.read_records.new.lines (g.S.Source.rest c.read_records.new.source))
-    c.in_ok-opening-2.opening c.in_ok-jobs.jobs.items
+    c.in-Ok.opening c.in-Ok-read_jobs.jobs.items
     (begun c.args.workers c.args.most c.in_ok-lines.lines (g.S.Source.rest c.args.source.now) c.next_line.new.self.line
     (cut_left c.next_line.new.self (g.S.Source.rest c.next_line.new.source))
-    (cut_left c.read_records.new.lines (g.S.Source.rest c.read_records.new.source)) c.in_ok-opening.opening c.in_ok-opening-2.opening
+    (cut_left c.read_records.new.lines (g.S.Source.rest c.read_records.new.source)) c.in_ok-opening.opening c.in-Ok.opening
     c.next_line.new.self.number c.read_records.new.lines.number c.in_ok-lines.ensures (search rules) c.in_ok-opening.ensures.opening
-    (search rules) c.in_ok-opening-2.ensures.filled c.in_ok-opening-2.ensures.limits c.in_ok-opening-2.ensures.procedures)
-    c.in_ok-jobs.ensures.jobs
+    (search rules) c.in-Ok.ensures.filled c.in-Ok.ensures.limits c.in-Ok.ensures.procedures)
+    c.in-Ok-read_jobs.ensures.jobs

@@ -11,10 +11,10 @@ returns-clause-run g c =
     c.in_ok-report.report.database
     c.in_ok-opening.ensures.input
     (subst (λ js. AreRun c.in_ok-opening.opening js c.args.workers c.args.tries c.in_ok-report.report.history.entries
-    c.in_ok-report.report.outcomes.items c.in_ok-report.report.database) c.as_slice.ensures.value c.in_ok-report.ensures.report)
+    c.in_ok-report.report.outcomes.items c.in_ok-report.report.database) c.as_slice-2.ensures.value c.in_ok-report.ensures.report)
 
 pub returns-clause-few : goal.returns-clause-few
 returns-clause-few g c =
-    let long : length c.in_ok-report.report.outcomes.items ≡ length c.as_slice.result.now =
+    let long : length c.in_ok-report.report.outcomes.items ≡ length c.as_slice-2.result.now =
     AllZip-long _ _ _ c.in_ok-report.ensures.report.stand.each in
     search (rules, arith, long, c.in_ok-opening.ensures.numbered.0)

@@ -6,13 +6,13 @@ pub returns : goal.returns
 returns c =
     let start = c.args.text.now.items in
     on_ok c.append_strict_object.result _ _ (λ strict.
-    grow start c.append_serial_object.new.text.items c.append_strict_object.new.text.items _ _
-    (grow start c.append_snapshot_object.new.text.items c.append_serial_object.new.text.items _ _
-    (grow start c.append_committed_object.new.text.items c.append_snapshot_object.new.text.items _ _
-    (grow start c.append_writes_object.new.text.items c.append_committed_object.new.text.items _ _
-    c.in_ok-append_writes_object.ensures
-    c.in_ok-append_committed_object.ensures)
-    c.in_ok-append_snapshot_object.ensures)
-    c.in_ok-append_serial_object.ensures)
+    grow start c.append_next_object-3.new.text.items c.append_strict_object.new.text.items _ _
+    (grow start c.append_next_object-2.new.text.items c.append_next_object-3.new.text.items _ _
+    (grow start c.append_next_object.new.text.items c.append_next_object-2.new.text.items _ _
+    (grow start c.append_object.new.text.items c.append_next_object.new.text.items _ _
+    c.in_ok-append_object.ensures
+    c.in_ok-append_next_object.ensures)
+    c.in_ok-append_next_object-2.ensures)
+    c.in_ok-append_next_object-3.ensures)
     strict)
     c.append_strict_object.ensures

@@ -1,5 +1,5 @@
-use Rattle.std.proofs.Common.{rules, ◌≡◌, ◌∙◌, true, sym, ap, subst}
-use Rattle.sgt_clients.specs.Levels.{is_strict, keeps_time, IsAnswer, answer_of, AreFound}
+use Rattle.std.proofs.Common.{rules, sym, subst}
+use Rattle.sgt_clients.specs.Levels.{keeps_time, IsAnswer, AreFound}
 use Rattle.sgt_clients.proofs.Leveled.{answers_right, strongest_holds, level_keeps}
 use Rattle.sgt_clients.proofs.run.check_json.Goals as goal
 

@@ -14,3 +14,10 @@ returns-in-Some-2 c =
     fault_rules_out c.args.history.now c.in-Some-2.reader c.in-Some-2.read c.in-Some-2.fault
     (index_once c.args.history.now (position_of c.in-Some.appends) index) has in
     record { writes = c.in_ok-search_order.ensures; committed = (has, none); snapshot = not_snapshot c.args.history.now none }
+
+pub returns : goal.returns
+returns c = record {
+  writes = c.in_ok-writes.ensures;
+  committed = c.in_ok-committed.ensures;
+  snapshot = c.snapshot_under.ensures c.args.history.now c.in_ok-committed.ensures c.in_ok-snapshot.ensures;
+}

@@ -16,18 +16,9 @@ returns-in-Replies-clause-answered c =
     (λ is. (entry, past, refl, rw c.in-Replies.is (is ∙ ap (λ r. c.args.text.now.items ++ text r) (sym same))))
     c.append_short_reply.ensures.ok
 
-pub returns-in-History-clause-answered : goal.returns-in-History-clause-answered
-returns-in-History-clause-answered c =
+pub returns-in_default-clause-answered : goal.returns-in_default-clause-answered
+returns-in_default-clause-answered c =
     let done = c.in-Ok.ensures.adds in
     let entry : Entry = record { event = c.args.event.now; reply = done.reply } in
     let past : c.answer.new.self.past ≡ entry ∷ c.args.engine.now.past = ap (λ (e : EngineView). e.past) done.adds in
-    on_ok_weaker c.append_newest.result (λ says. (entry, past, refl, rw c.in-History.is (says entry c.args.engine.now.past past)))
-    c.append_newest.ensures.operations
-
-pub returns-in-Json-clause-answered : goal.returns-in-Json-clause-answered
-returns-in-Json-clause-answered c =
-    let done = c.in-Ok.ensures.adds in
-    let entry : Entry = record { event = c.args.event.now; reply = done.reply } in
-    let past : c.answer.new.self.past ≡ entry ∷ c.args.engine.now.past = ap (λ (e : EngineView). e.past) done.adds in
-    on_ok_weaker c.append_newest_json.result (λ says. (entry, past, refl, rw c.in-Json.is (says entry c.args.engine.now.past past)))
-    c.append_newest_json.ensures.reply
+    on_ok_weaker c.append_other.result (λ says. (entry, past, refl, says entry c.args.engine.now.past past)) c.append_other.ensures.answered

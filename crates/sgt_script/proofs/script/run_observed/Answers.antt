@@ -1,4 +1,4 @@
-use Rattle.std.proofs.Common.{rules, ◌≡◌, Err, ◌+◌, sym, ◌∙◌, subst}
+use Rattle.std.proofs.Common.{rules, ◌≡◌, Err, ◌+◌, refl, sym, ◌∙◌, subst}
 use Rattle.sgt_input.specs.Intake.{cut_left}
 use Rattle.sgt_input.specs.Ends.{IsExact}
 use Rattle.sgt_engine.specs.EngineView.{configuration_of}
@@ -16,31 +16,29 @@ returns-in_err-lines-clause-script g c = λ exact.
     wrote-refused c.args.output c.args.most (g.S.Source.rest c.args.source.now) (g.T.Sink.held c.args.sink.now) c.in_err-lines.field-0.0
     c.from_residual.result (c.in_err-lines.ensures.fault (subst IsExact failed exact)) failed
 
-pub returns-in_err-opening-clause-script : goal.returns-in_err-opening-clause-script
-returns-in_err-opening-clause-script g c = λ exact.
-    let failed : c.from_residual-in_err-opening.result ≡ Err c.in_err-opening.field-0.0 = search rules in
+pub returns-in-Err-clause-script : goal.returns-in-Err-clause-script
+returns-in-Err-clause-script g c = λ exact.
     wrote-bad-record c.args.output c.args.most (g.S.Source.rest c.args.source.now) (g.T.Sink.held c.args.sink.now) c.in_ok-lines.lines.line
-    c.in_err-opening.field-0.0 c.from_residual-in_err-opening.result
+    c.in-Err.fault (Err c.in-Err.fault)
     (bad-following c.args.most (g.S.Source.rest c.args.source.now) c.in_ok-lines.lines (g.S.Source.rest c.open_input.new.source)
-    c.in_ok-lines.opening c.in_err-opening.field-0.0 c.in_ok-lines.ensures.opened
-    (c.in_err-opening.ensures.fault (subst IsExact failed exact)))
-    failed
+    c.in_ok-lines.opening c.in-Err.fault c.in_ok-lines.ensures.opened (c.in-Err.ensures.fault exact))
+    refl
 
 pub returns-clause-script : goal.returns-clause-script
 returns-clause-script g c = λ exact.
     with-laws c.headline_holds.ensures c.opened_hold_values.ensures c.replays_hold_values.ensures.committed
     c.replay_is_bank.ensures.replay c.legal_are_commit_ordered.ensures c.legal_are_serializable.ensures
     c.legal_are_recoverable.ensures c.transcripts_spell_textbooks.ensures c.args.output c.args.most (g.S.Source.rest c.args.source.now)
-    (g.T.Sink.held c.args.sink.now) (g.T.Sink.held c.run_opened.new.sink) c.run_opened.result
+    (g.T.Sink.held c.args.sink.now) (g.T.Sink.held c.run_opened-ran.new.sink) c.run_opened-ran.result
     (wrote-opened c.args.output c.args.most (configuration_of c.in_ok-engine.engine) (g.S.Source.rest c.args.source.now)
-    (g.T.Sink.held c.args.sink.now) (g.T.Sink.held c.run_opened.new.sink) c.in_ok-lines.lines.line
+    (g.T.Sink.held c.args.sink.now) (g.T.Sink.held c.run_opened-ran.new.sink) c.in_ok-lines.lines.line
     (c.read_records.new.lines.number + 1) (cut_left c.read_records.new.lines (g.S.Source.rest c.read_records.new.source))
-    c.in_ok-opening.opening c.run_opened.result
+    c.in-Ok.opening c.run_opened-ran.result
     (begun-following c.args.most (g.S.Source.rest c.args.source.now) c.in_ok-lines.lines (g.S.Source.rest c.open_input.new.source)
-    (cut_left c.read_records.new.lines (g.S.Source.rest c.read_records.new.source)) c.in_ok-lines.opening c.in_ok-opening.opening
-    c.read_records.new.lines.number c.in_ok-lines.ensures.opened c.in_ok-opening.ensures.filled c.in_ok-opening.ensures.limits
-    c.in_ok-opening.ensures.procedures)
-    c.in_ok-engine.ensures.configuration (c.run_opened.ensures.output exact))
+    (cut_left c.read_records.new.lines (g.S.Source.rest c.read_records.new.source)) c.in_ok-lines.opening c.in-Ok.opening
+    c.read_records.new.lines.number c.in_ok-lines.ensures.opened c.in-Ok.ensures.filled c.in-Ok.ensures.limits
+    c.in-Ok.ensures.procedures)
+    c.in_ok-engine.ensures.configuration (c.run_opened-ran.ensures.output exact))
 
 pub returns-in_err-lines-clause-stops : goal.returns-in_err-lines-clause-stops
 returns-in_err-lines-clause-stops g c = λ stop.
@@ -50,11 +48,11 @@ returns-in_err-lines-clause-stops g c = λ stop.
     let failed : c.open_input.result ≡ Err fault.Reading = search rules in
     read-nothing (g.S.Source.rest c.args.source.now) (g.S.Source.rest c.open_input.new.source) (c.open_input.ensures.unread failed))
 
-pub returns-in_err-opening-clause-stops : goal.returns-in_err-opening-clause-stops
-returns-in_err-opening-clause-stops g c = λ stop.
+pub returns-in-Err-clause-stops : goal.returns-in-Err-clause-stops
+returns-in-Err-clause-stops g c = λ stop.
     stops-records c.args.output c.args.most (g.S.Source.rest c.args.source.now) c.in_ok-lines.lines (g.S.Source.rest c.open_input.new.source)
     (g.S.Source.rest c.read_records.new.source) (g.T.Sink.held c.args.sink.now) c.in_ok-lines.opening
-    c.from_residual-in_err-opening.result c.in_ok-lines.ensures.opened
+    (Err c.in-Err.fault) c.in_ok-lines.ensures.opened
     (λ reading.
     let failed : c.read_records.result ≡ Err fault.Reading = search rules in
     c.read_records.ensures.unread failed)
@@ -69,24 +67,24 @@ pub returns-clause-stops : goal.returns-clause-stops
 returns-clause-stops g c = λ stop.
     stops-opened c.args.output c.args.most c.in_ok-lines.lines c.read_records.new.lines (configuration_of c.in_ok-engine.engine)
     (g.S.Source.rest c.args.source.now) (g.S.Source.rest c.open_input.new.source) (g.S.Source.rest c.read_records.new.source)
-    (g.S.Source.rest c.run_opened.new.source) (g.T.Sink.held c.args.sink.now) (g.T.Sink.held c.run_opened.new.sink)
-    (cut_left c.read_records.new.lines (g.S.Source.rest c.read_records.new.source)) c.in_ok-lines.opening c.in_ok-opening.opening
-    c.run_opened.result c.in_ok-lines.ensures.opened
+    (g.S.Source.rest c.run_opened-ran.new.source) (g.T.Sink.held c.args.sink.now) (g.T.Sink.held c.run_opened-ran.new.sink)
+    (cut_left c.read_records.new.lines (g.S.Source.rest c.read_records.new.source)) c.in_ok-lines.opening c.in-Ok.opening
+    c.run_opened-ran.result c.in_ok-lines.ensures.opened
     (begun-following c.args.most (g.S.Source.rest c.args.source.now) c.in_ok-lines.lines (g.S.Source.rest c.open_input.new.source)
-    (cut_left c.read_records.new.lines (g.S.Source.rest c.read_records.new.source)) c.in_ok-lines.opening c.in_ok-opening.opening
-    c.read_records.new.lines.number c.in_ok-lines.ensures.opened c.in_ok-opening.ensures.filled c.in_ok-opening.ensures.limits
-    c.in_ok-opening.ensures.procedures)
-    c.in_ok-engine.ensures.configuration (λ still. (c.read_records.ensures.ended still, c.in_ok-opening.ensures.passed still))
-    c.run_opened.ensures.going (c.run_opened.ensures.stops stop)
+    (cut_left c.read_records.new.lines (g.S.Source.rest c.read_records.new.source)) c.in_ok-lines.opening c.in-Ok.opening
+    c.read_records.new.lines.number c.in_ok-lines.ensures.opened c.in-Ok.ensures.filled c.in-Ok.ensures.limits
+    c.in-Ok.ensures.procedures)
+    c.in_ok-engine.ensures.configuration (λ still. (c.read_records.ensures.ended still, c.in-Ok.ensures.passed still))
+    c.run_opened-ran.ensures.going (c.run_opened-ran.ensures.stops stop)
 
 pub returns-clause-part : goal.returns-clause-part
 returns-clause-part g c = λ failed.
     fails-opened c.args.output c.args.most (configuration_of c.in_ok-engine.engine) (g.S.Source.rest c.args.source.now)
-    (g.T.Sink.held c.args.sink.now) (g.T.Sink.held c.run_opened.new.sink) c.in_ok-lines.lines.line
+    (g.T.Sink.held c.args.sink.now) (g.T.Sink.held c.run_opened-ran.new.sink) c.in_ok-lines.lines.line
     (c.read_records.new.lines.number + 1) (cut_left c.read_records.new.lines (g.S.Source.rest c.read_records.new.source))
-    c.in_ok-opening.opening
+    c.in-Ok.opening
     (begun-following c.args.most (g.S.Source.rest c.args.source.now) c.in_ok-lines.lines (g.S.Source.rest c.open_input.new.source)
-    (cut_left c.read_records.new.lines (g.S.Source.rest c.read_records.new.source)) c.in_ok-lines.opening c.in_ok-opening.opening
-    c.read_records.new.lines.number c.in_ok-lines.ensures.opened c.in_ok-opening.ensures.filled c.in_ok-opening.ensures.limits
-    c.in_ok-opening.ensures.procedures)
-    c.in_ok-engine.ensures.configuration (c.run_opened.ensures.part failed)
+    (cut_left c.read_records.new.lines (g.S.Source.rest c.read_records.new.source)) c.in_ok-lines.opening c.in-Ok.opening
+    c.read_records.new.lines.number c.in_ok-lines.ensures.opened c.in-Ok.ensures.filled c.in-Ok.ensures.limits
+    c.in-Ok.ensures.procedures)
+    c.in_ok-engine.ensures.configuration (c.run_opened-ran.ensures.part failed)

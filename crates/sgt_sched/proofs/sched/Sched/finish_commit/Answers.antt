@@ -22,8 +22,8 @@ finish-requires g c = (
   ),
 )
 
-pub leave-requires : goal.leave-requires
-leave-requires g c = record { rising = c.args.self.now.kept.rising }
+pub leave_at-requires : goal.leave_at-requires
+leave_at-requires g c = record { rising = c.args.self.now.kept.rising; at = c.requires.at }
 
 pub end-requires : goal.end-requires
 end-requires g c = record { live = no_fate c.args.self.now.kept c.args.t c.requires.live }
@@ -33,7 +33,7 @@ invariant_of-self g c =
     record {
       kept = kept_after c.args.self.now.kept c.args.t c.requires.live fate.Committed c.finish.new.records c.finish.new.accesses
           c.finish.new.graph c.finish.ensures.chain c.finish.ensures.accesses c.finish.ensures.nodes c.finish.ensures.pairs
-          c.leave.new.live c.leave.new.read_from.items _ c.leave.ensures.live c.leave.ensures.read_from c.end.ensures;
+          c.leave_at.new.live c.leave_at.new.read_from.items _ c.leave_at.ensures.live c.leave_at.ensures.read_from c.end.ensures;
     }
 
 pub returns : goal.returns
@@ -48,11 +48,11 @@ returns g c =
         settles = record {
           removes = removes_after c.args.self.now.kept c.args.t node fate.Committed c.finish.new.records c.finish.new.accesses
               c.finish.new.graph c.finish.ensures.chain c.finish.ensures.accesses c.finish.ensures.nodes c.finish.ensures.pairs
-              c.leave.new.live c.leave.new.read_from.items _ c.leave.ensures.live c.leave.ensures.read_from fates_are;
+              c.leave_at.new.live c.leave_at.new.read_from.items _ c.leave_at.ensures.live c.leave_at.ensures.read_from fates_are;
           settled = λ k. c.finish.ensures.settled k;
           fates = fates_after c.args.self.now.kept c.args.t node fate.Committed c.finish.new.records c.finish.new.accesses
               c.finish.new.graph c.finish.ensures.chain c.finish.ensures.accesses c.finish.ensures.nodes c.finish.ensures.pairs
-              c.leave.new.live c.leave.new.read_from.items _ c.leave.ensures.live c.leave.ensures.read_from fates_are;
+              c.leave_at.new.live c.leave_at.new.read_from.items _ c.leave_at.ensures.live c.leave_at.ensures.read_from fates_are;
         };
       };
       kept = (refl, refl);

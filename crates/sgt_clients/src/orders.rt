@@ -1,0 +1,334 @@
+//! Strong and session snapshot isolation: snapshot runs that keep real time, or the order of each process.
+//!
+//! That a run is one of snapshots is proved. That it keeps the order, and that a cycle leaves none, is tested.
+
+use crate::clients::{Clients, Event, Span};
+use crate::finding::{Finding, is_serial};
+use crate::level_findings::Weaker;
+use crate::names::breaks_strong;
+use sgt_appends::Status;
+use sgt_levels::{Ordered, Orders, Passage, Snapshot, Snapshots, ordered_run};
+use sgt_model::NoMemory;
+use std::alloc::Global;
+use std::collections::BTreeMap;
+
+/// Whether there is a snapshot run that keeps an order, with the evidence.
+#[derive(Drop)]
+pub enum Kept {
+    /// There is, since a stronger level holds.
+    Implied,
+    /// There is: an order of commits, and the start of each.
+    Run(Snapshots),
+    /// There is none, since there is no snapshot run.
+    NotSnapshot,
+    /// There is none: a cycle without two misses next to one another.
+    Cycle(Vec<Passage>),
+    /// Not decided.
+    Open,
+}
+
+/// The answers for strong and session snapshot isolation.
+#[derive(Drop)]
+pub struct KeptOrders {
+    /// A transaction begins after all have committed that had ended.
+    pub strong: Kept,
+    /// Whether there is no such run by the finding of strict serializability, which has no more steps.
+    pub strong_above: bool,
+    /// The same among the transactions of one process.
+    pub session: Kept,
+}
+
+/// Which order a run keeps.
+#[derive(Clone, Copy, PartialEq, Eq)]
+enum Kind {
+    RealTime,
+    Process,
+}
+
+/// Which orders a snapshot run keeps, after what was found of strict serializability and of the weaker levels.
+pub(crate) fn kept_orders(
+    alloc: Global,
+    clients: &Clients,
+    finding: &Finding,
+    weaker: &Option<Weaker>,
+) -> Result<KeptOrders, NoMemory> {
+    if is_serial(finding) {
+        return Ok(KeptOrders {
+            strong: Kept::Implied,
+            strong_above: false,
+            session: Kept::Implied,
+        });
+    }
+    if has_no_snapshots(weaker) {
+        return Ok(KeptOrders {
+            strong: Kept::NotSnapshot,
+            strong_above: false,
+            session: Kept::NotSnapshot,
+        });
+    }
+    let strong = answer_for(alloc, clients, Kind::RealTime)?;
+    let session = match &strong {
+        Kept::Run(_) => Kept::Implied,
+        _ => answer_for(alloc, clients, Kind::Process)?,
+    };
+    Ok(KeptOrders {
+        strong_above: weaker.is_none() && breaks_strong(finding, &strong),
+        strong,
+        session,
+    })
+}
+
+/// Whether there is certainly no snapshot run.
+fn has_no_snapshots(weaker: &Option<Weaker>) -> bool {
+    match weaker {
+        Some(weaker) => matches!(
+            &weaker.levels.snapshot,
+            Snapshot::NotCommitted | Snapshot::Cycle(_)
+        ),
+        None => false,
+    }
+}
+
+/// Whether there is a snapshot run that keeps the order.
+fn answer_for(alloc: Global, clients: &Clients, kind: Kind) -> Result<Kept, NoMemory> {
+    let pairs = pairs_of(alloc, clients, kind)?;
+    let orders = Orders {
+        before: pairs.before.as_slice(),
+        barriers: pairs.barriers,
+    };
+    match ordered_run(alloc, clients.transactions.as_slice(), orders)? {
+        Ordered::Run(run) => {
+            if keeps(alloc, clients, &run, kind)? {
+                return Ok(Kept::Run(run));
+            }
+            Ok(Kept::Open)
+        }
+        Ordered::Cycle(passages) => {
+            let merged = merged(alloc, passages.as_slice())?;
+            if all_hold(clients, merged.as_slice(), kind) {
+                return Ok(Kept::Cycle(merged));
+            }
+            Ok(Kept::Open)
+        }
+        Ordered::Open => Ok(Kept::Open),
+    }
+}
+
+/// The passages of a cycle, with those as one that follow one another without a ground.
+fn merged(alloc: Global, passages: &[Passage]) -> Result<Vec<Passage>, NoMemory> {
+    let mut merged: Vec<Passage> = Vec::with_capacity(alloc, passages.len())?;
+    for passage in passages {
+        let goes_on = match merged.last() {
+            Some(before) => before.ground.is_none() && passage.ground.is_none(),
+            None => false,
+        };
+        let last = merged.len().saturating_sub(1);
+        if !goes_on {
+            merged.push(*passage)?;
+        } else if let Some(before) = merged.get_mut(last) {
+            before.to = passage.to;
+        }
+    }
+    Ok(merged)
+}
+
+/// Transactions and barriers of which the first of a pair comes before the second.
+#[derive(Drop)]
+struct Pairs {
+    before: Vec<(usize, usize)>,
+    barriers: usize,
+}
+
+/// The pairs of the order.
+fn pairs_of(alloc: Global, clients: &Clients, kind: Kind) -> Result<Pairs, NoMemory> {
+    match kind {
+        Kind::RealTime => pairs_in_time(alloc, clients),
+        Kind::Process => pairs_of_processes(alloc, clients),
+    }
+}
+
+/// The pairs of real time. Where transactions begin after others have ended, a barrier stands between them.
+fn pairs_in_time(alloc: Global, clients: &Clients) -> Result<Pairs, NoMemory> {
+    let mut pairs = Pairs {
+        before: Vec::new(alloc),
+        barriers: 0,
+    };
+    let mut ended = Vec::new(alloc);
+    for event in &clients.events {
+        match *event {
+            Event::Ended(number) => if has_committed(clients, number) {
+                ended.push(number)?;
+            },
+            Event::Began(number) => {
+                add_barrier(&mut pairs, clients, &mut ended)?;
+                if let Some(last) = last_barrier(&pairs, clients) {
+                    pairs.before.push((last, number))?;
+                }
+            }
+        }
+    }
+    Ok(pairs)
+}
+
+/// The number of the last barrier, if there is one.
+fn last_barrier(pairs: &Pairs, clients: &Clients) -> Option<usize> {
+    let barrier = pairs.barriers.checked_sub(1)?;
+    clients.transactions.len().checked_add(barrier)
+}
+
+/// Adds a barrier after those that have ended, and after the last barrier.
+fn add_barrier(
+    pairs: &mut Pairs,
+    clients: &Clients,
+    ended: &mut Vec<usize>,
+) -> Result<(), NoMemory> {
+    if ended.is_empty() {
+        return Ok(());
+    }
+    let last = last_barrier(pairs, clients);
+    pairs.barriers = pairs.barriers.saturating_add(1);
+    let Some(barrier) = last_barrier(pairs, clients) else {
+        return Ok(());
+    };
+    if let Some(last) = last {
+        pairs.before.push((last, barrier))?;
+    }
+    for number in ended.as_slice() {
+        pairs.before.push((*number, barrier))?;
+    }
+    ended.clear();
+    Ok(())
+}
+
+/// The pairs of each process: the last transaction of it that committed comes before the next one.
+fn pairs_of_processes(alloc: Global, clients: &Clients) -> Result<Pairs, NoMemory> {
+    let mut before = Vec::new(alloc);
+    let mut last = BTreeMap::new(alloc);
+    for event in &clients.events {
+        match *event {
+            Event::Ended(number) => if has_committed(clients, number) {
+                last.insert(process_of(clients, number), number)?;
+            },
+            Event::Began(number) => {
+                if let Some(earlier) = last.get(&process_of(clients, number)).copied() {
+                    before.push((earlier, number))?;
+                }
+            }
+        }
+    }
+    Ok(Pairs {
+        before,
+        barriers: 0,
+    })
+}
+
+/// The process of the transaction.
+fn process_of(clients: &Clients, number: usize) -> u32 {
+    match clients.processes.get(number) {
+        Some(process) => *process,
+        None => 0,
+    }
+}
+
+/// Whether the transaction committed.
+fn has_committed(clients: &Clients, number: usize) -> bool {
+    match clients.transactions.get(number) {
+        Some(transaction) => transaction.status == Status::Committed,
+        None => false,
+    }
+}
+
+/// Whether each transaction of the run begins after those have committed that come before it.
+fn keeps(alloc: Global, clients: &Clients, run: &Snapshots, kind: Kind) -> Result<bool, NoMemory> {
+    match kind {
+        Kind::RealTime => keeps_time(alloc, clients.spans.as_slice(), run),
+        Kind::Process => keeps_processes(alloc, clients, run),
+    }
+}
+
+/// Whether none that commits after the start of a transaction had ended when that began.
+fn keeps_time(alloc: Global, spans: &[Span], run: &Snapshots) -> Result<bool, NoMemory> {
+    let soonest = soonest_ends(alloc, spans, run.order.as_slice())?;
+    for (place, number) in run.order.iter().enumerate() {
+        let (Some(start), Some(span)) = (run.starts.get(place), spans.get(*number)) else {
+            return Ok(false);
+        };
+        let Some(ended) = soonest.get(soonest.len().saturating_sub(*start).saturating_sub(1)) else {
+            return Ok(false);
+        };
+        if *ended < span.began {
+            return Ok(false);
+        }
+    }
+    Ok(true)
+}
+
+/// For each place of the order, the last first, the soonest end of the transactions from there on.
+fn soonest_ends(alloc: Global, spans: &[Span], order: &[usize]) -> Result<Vec<usize>, NoMemory> {
+    let mut soonest = Vec::with_capacity(alloc, order.len())?;
+    let mut least = usize::MAX;
+    for number in order.iter().rev() {
+        if let Some(span) = spans.get(*number) {
+            least = least.min(span.ended.unwrap_or(usize::MAX));
+        }
+        soonest.push(least)?;
+    }
+    Ok(soonest)
+}
+
+/// Whether each transaction begins after those of its process have committed that had ended.
+fn keeps_processes(alloc: Global, clients: &Clients, run: &Snapshots) -> Result<bool, NoMemory> {
+    let mut places: BTreeMap<usize, usize> = BTreeMap::new(alloc);
+    for (place, number) in run.order.iter().enumerate() {
+        places.insert(*number, place)?;
+    }
+    let mut last: BTreeMap<u32, usize> = BTreeMap::new(alloc);
+    for event in &clients.events {
+        match *event {
+            Event::Ended(number) => if let Some(place) = places.get(&number).copied() {
+                last.insert(process_of(clients, number), place)?;
+            },
+            Event::Began(number) => {
+                let before = last.get(&process_of(clients, number)).copied();
+                if !begins_after(run, places.get(&number).copied(), before) {
+                    return Ok(false);
+                }
+            }
+        }
+    }
+    Ok(true)
+}
+
+/// Whether the transaction at the place begins after the one at the other place has committed, if there are both.
+fn begins_after(run: &Snapshots, place: Option<usize>, before: Option<usize>) -> bool {
+    let (Some(place), Some(before)) = (place, before) else {
+        return true;
+    };
+    match run.starts.get(place) {
+        Some(start) => before < *start,
+        None => false,
+    }
+}
+
+/// Whether each passage without a ground leads from a transaction that committed to one that comes after it in the order.
+fn all_hold(clients: &Clients, passages: &[Passage], kind: Kind) -> bool {
+    for passage in passages {
+        if passage.ground.is_none() && !comes_before(clients, passage.from, passage.to, kind) {
+            return false;
+        }
+    }
+    true
+}
+
+/// Whether the one committed and had ended when the other one began; in the order of processes, of the same process.
+fn comes_before(clients: &Clients, from: usize, to: usize, kind: Kind) -> bool {
+    let (Some(first), Some(second)) = (clients.spans.get(from), clients.spans.get(to)) else {
+        return false;
+    };
+    let has_ended = match first.ended {
+        Some(ended) => ended < second.began,
+        None => false,
+    };
+    let is_ordered = kind == Kind::RealTime || process_of(clients, from) == process_of(clients, to);
+    has_ended && is_ordered && has_committed(clients, from)
+}

@@ -1,0 +1,246 @@
+//! Why a token may not stand where it does in a line, in words.
+use crate::brackets::wrong_end;
+use crate::excerpt::shortened;
+use crate::grammar::{Next, Open, Span, Wrong};
+use crate::opening::MEMBERS;
+use crate::token::{Kind, TokenKind};
+use crate::typed::Typed;
+use sgt_model::NoMemory;
+
+const BAD_NUMBER: &str =
+    "a number is written as 10 or -5, without a plus, a leading zero or other signs";
+
+const CONTROL: &str =
+    "a tab or another control character stands in a text as \\t, or as \\u and four hexadecimal digits";
+
+const BAD_ESCAPE: &str =
+    "in a text a backslash stands before \", \\, /, b, f, n, r, t, or u and four hexadecimal digits";
+
+const LIST_ENDS: &str = "a list ends in ]";
+
+const OBJECT_ENDS: &str = "an object ends in }";
+
+const IN_QUOTES: &str = "a text stands in double quotes";
+
+const A_LIST: &str = "a list stands in square brackets";
+
+const A_NAME: &str = "the name of a member stands here in double quotes";
+
+const A_COLON: &str = "a colon stands after the name of a member";
+
+const A_REQUEST: &str = "an event, a job or a record is a list, in square brackets";
+
+const LINE_ENDS: &str = "the JSON of this line ends before it";
+
+/// Why the first wrong token of a line may not stand there, or what may.
+pub(crate) fn reason(typed: Typed<'_>, wrong: &Wrong) -> Result<String, NoMemory> {
+    if let Some(text) = wrong.text_before() {
+        let column = text.begin.saturating_add(1);
+        return Ok(format!(in typed.alloc;
+            "the text at column {column} is followed by a word: a quote may be missing in it"
+        )?);
+    }
+    let rest = typed.text.get(wrong.token.at..).unwrap_or(b"");
+    match (
+        wrong.grammar.next,
+        wrong.grammar.open.last(),
+        wrong.token.kind,
+    ) {
+        (Next::Name, Some(object), TokenKind::Opens(_) | TokenKind::Plain | TokenKind::BadNumber) =>
+            { name_reason(typed, wrong, object) }
+        (Next::Colon, Some(object), TokenKind::Comma) if is_request(typed, wrong, object) => {
+            Ok(format!(in typed.alloc; "{A_COLON}; {A_REQUEST}")?)
+        }
+        (Next::End, Some(list), TokenKind::Colon) if lacks_end(wrong, list) => {
+            let column = list.begin.saturating_add(1);
+            Ok(format!(in typed.alloc;
+                "no colon stands in a list: the list that begins at column {column} may lack its ]"
+            )?)
+        }
+        (Next::End, None, _) => line_reason(typed, wrong, rest),
+        (next, top, kind) => {
+            let words = words_at(next, top, kind, rest);
+            Ok(format!(in typed.alloc; "{words}")?)
+        }
+    }
+}
+
+// What is said of a value that stands where the name of a member of this object has to.
+fn name_reason(typed: Typed<'_>, wrong: &Wrong, object: &Open) -> Result<String, NoMemory> {
+    let (Some(name), Some(value)) = (object.name, object.value) else {
+        return Ok(format!(in typed.alloc; "{A_NAME}")?);
+    };
+    let column = value.end;
+    let name = part_of(typed, name);
+    let opens_list = matches!(wrong.token.kind, TokenKind::Opens(Kind::List));
+    let shown = shortened(typed.alloc, name)?;
+    match (typed.text.get(value.begin), opens_list) {
+        (Some(b'['), true) => {
+            let hint = if has_end_too_many(typed, wrong, value)? {
+                "a ] is too many"
+            } else {
+                "its own brackets are missing, as in [[1,2],[3,4]]"
+            };
+            Ok(format!(in typed.alloc;
+                "{A_NAME}: the list of {shown} ended at column {column}: {hint}"
+            )?)
+        }
+        (Some(b'[' | b'{'), _) => Ok(format!(in typed.alloc; "{A_NAME}")?),
+        _ if is_request(typed, wrong, object) => Ok(format!(in typed.alloc;
+            "{A_NAME}; {A_REQUEST}"
+        )?),
+        _ => Ok(format!(in typed.alloc;
+            "{A_NAME}: the value of {shown} ended at column {column}, and {A_LIST}"
+        )?),
+    }
+}
+
+// Whether a list has ended too early: it has lists, or more ends come than begin.
+fn has_end_too_many(typed: Typed<'_>, wrong: &Wrong, list: Span) -> Result<bool, NoMemory> {
+    let items = typed
+        .text
+        .get(list.begin.saturating_add(1)..)
+        .unwrap_or(b"");
+    let rest = typed.text.get(wrong.token.at..).unwrap_or(b"");
+    let end = match wrong_end(typed.alloc, rest)? {
+        Some(index) => rest.get(index).copied(),
+        None => None,
+    };
+    Ok(items.trim_ascii_start().starts_with(b"[") || end == Some(b']'))
+}
+
+// Whether an object is a whole line, and begins as an event, a job or a record would.
+fn is_request(typed: Typed<'_>, wrong: &Wrong, object: &Open) -> bool {
+    let Some(name) = object.name else {
+        return false;
+    };
+    let name = part_of(
+        typed,
+        Span {
+            begin: name.begin.saturating_add(1),
+            end: name.end.saturating_sub(1),
+        },
+    );
+    wrong.grammar.open.len() == 1 && !MEMBERS.contains(&name)
+}
+
+// Whether this list has the name of a member, and so may have ended before it.
+fn lacks_end(wrong: &Wrong, list: &Open) -> bool {
+    let in_object = match wrong.grammar.open.first() {
+        Some(first) => matches!(first.kind, Kind::Object),
+        None => false,
+    };
+    let is_text = match (wrong.grammar.text, list.value) {
+        (Some(text), Some(value)) => text.begin == value.begin,
+        _ => false,
+    };
+    in_object && is_text && matches!(list.kind, Kind::List)
+}
+
+// What stands there in the line, if that is UTF-8.
+fn part_of<'a>(typed: Typed<'a>, span: Span) -> &'a str {
+    str::from_utf8(typed.text.get(span.begin..span.end).unwrap_or(b"")).unwrap_or("")
+}
+
+// What is said of a token after the value that a line is.
+fn line_reason(typed: Typed<'_>, wrong: &Wrong, rest: &[u8]) -> Result<String, NoMemory> {
+    let has_ended_early = wrong_end(typed.alloc, rest)?.is_some();
+    let begins = typed.text.trim_ascii_start().first().copied();
+    match words_after(wrong.token.kind, begins, has_ended_early, rest) {
+        Some(words) => Ok(format!(in typed.alloc; "{LINE_ENDS}: {words}")?),
+        None => Ok(format!(in typed.alloc; "{LINE_ENDS}")?),
+    }
+}
+
+// What is said more of it, where the line begins with this byte, and whether more lists or objects end than begin.
+fn words_after(
+    kind: TokenKind,
+    begins: Option<u8>,
+    has_ended_early: bool,
+    rest: &[u8],
+) -> Option<&'static str> {
+    match (kind, begins) {
+        (TokenKind::Closes(_), _) => None,
+        (TokenKind::Other, _) => other_words(rest),
+        (TokenKind::Colon, Some(b'"')) => Some("an object stands in { }"),
+        (_, Some(b'[')) if has_ended_early => Some("a ] before it is too many"),
+        (_, Some(b'{')) if has_ended_early => Some("a } before it is too many"),
+        (_, Some(b'[' | b'{')) => Some("each event, job or record stands on a line of its own"),
+        _ => Some(A_LIST),
+    }
+}
+
+// What is said of a token like this, which begins these bytes, where this has to come next in what is open.
+fn words_at(next: Next, top: Option<&Open>, kind: TokenKind, rest: &[u8]) -> &'static str {
+    match (next, kind) {
+        (_, TokenKind::Control) => CONTROL,
+        (_, TokenKind::BadEscape) => BAD_ESCAPE,
+        (_, TokenKind::HalfCharacter) => "an escape in this text is half a character",
+        (Next::End, kind) => separator_words(top, kind, rest),
+        (Next::Line, TokenKind::Closes(_)) => "nothing is open that this could close",
+        (Next::FirstItem, TokenKind::Closes(_)) => LIST_ENDS,
+        (Next::FirstName, TokenKind::Closes(_)) => OBJECT_ENDS,
+        (Next::Value, TokenKind::Closes(_) | TokenKind::Comma) =>
+            "a value is missing after the colon",
+        (Next::Item | Next::Name, TokenKind::Closes(_)) => "nothing stands after the comma",
+        (Next::Colon, kind) => if begins_value(kind) {
+            "a colon is missing before it"
+        } else {
+            A_COLON
+        },
+        (_, TokenKind::Comma) => "nothing stands before the comma",
+        (_, TokenKind::Word) => "a word stands in double quotes",
+        (Next::FirstName, TokenKind::Opens(_) | TokenKind::Plain | TokenKind::BadNumber) =>
+            "the name of a member stands here in double quotes; a list stands in square brackets",
+        (Next::Name | Next::FirstName, TokenKind::Other) => other_words(rest).unwrap_or(A_NAME),
+        (Next::Name | Next::FirstName, _) => A_NAME,
+        (_, TokenKind::BadNumber) => BAD_NUMBER,
+        _ => other_words(rest).unwrap_or(
+            "a value stands here: a number, a text in double quotes, or a list in square brackets",
+        ),
+    }
+}
+
+// What is said of a token where a comma or the end of what is open has to come.
+fn separator_words(top: Option<&Open>, kind: TokenKind, rest: &[u8]) -> &'static str {
+    let is_list = match top {
+        Some(top) => matches!(top.kind, Kind::List),
+        None => false,
+    };
+    match kind {
+        TokenKind::Closes(_) if is_list => LIST_ENDS,
+        TokenKind::Closes(_) => OBJECT_ENDS,
+        _ if begins_value(kind) => "a comma is missing before it",
+        _ => match other_words(rest) {
+            Some(words) => words,
+            None if is_list => "a comma separates the items of a list",
+            None => "a comma separates the members of an object",
+        },
+    }
+}
+
+// Whether a value begins with a token like this, right or wrong.
+fn begins_value(kind: TokenKind) -> bool {
+    matches!(
+        kind,
+        TokenKind::Opens(_)
+            | TokenKind::Text
+            | TokenKind::Plain
+            | TokenKind::Word
+            | TokenKind::BadNumber
+    )
+}
+
+// What is said of bytes that begin no token, if they are known.
+fn other_words(rest: &[u8]) -> Option<&'static str> {
+    match rest {
+        [b'\'' | b'`', ..] => Some(IN_QUOTES),
+        [b'(', ..] => Some(A_LIST),
+        [b'#' | b'/', ..] => Some("there are no comments"),
+        [0xe2, 0x80, 0x98..=0x9f, ..] | [0xc2, 0xab | 0xbb, ..] => Some(
+            "a text stands in plain double quotes, as \"step\"",
+        ),
+        [0x80..=0xff, ..] => Some("this is not ASCII"),
+        _ => None,
+    }
+}
