@@ -147,10 +147,11 @@ class Front:
 
 def listen(host: str, port: int) -> list[socket.socket]:
     """A listener for each front, all at one port. The kernel would share its clients with another server, too: so that is refused."""
+    # Of servers that start at the same time one gets this name. The others end before they touch the port, where each could stop the other.
+    (name := socket.socket(socket.AF_UNIX)).bind(f"\0payments:{port}" if port else "")
+    name.detach()  # it stays while the server or a front lives
     with socket.create_server((host, port)) as alone:  # refused if anybody listens there
-        port, name = alone.getsockname()[1], socket.socket(socket.AF_UNIX)
-        name.bind(f"\0payments:{port}")  # refused if another server is about to
-        name.detach()  # it stays while the server or a front lives
+        port = alone.getsockname()[1]
     listeners = [socket.create_server((host, port), backlog=1024, reuse_port=True) for _ in range(FRONTS)]
     for it in listeners:
         it.setsockopt(socket.IPPROTO_TCP, socket.TCP_NODELAY, 1)  # of the clients, too
