@@ -10,7 +10,7 @@ use arrayvec::ArrayVec;
 use sgt_model::{Key, Kind, Tid, Tids};
 
 /// Whether one of these accesses conflicts with this one and is not t's.
-#[inline(never)]
+#[inline(always)]
 pub fn has_rival_among(accesses: &[Access], t: Tid, key: Key, kind: Kind) -> bool
     ensures exact { IsTrue result
         ↔ ((u : ℕ) × (u ≢ t) × (lists_conflicting accesses.now u key kind ≡ true)) }

@@ -1,10 +1,17 @@
 //! Cascading aborts: which transactions abort with one that they have read from.
-ghost use Rattle.std.specs.Prelude.{◌≡◌, ◌≢◌, ◌↔◌, ℕ};
+ghost use Rattle.std.specs.Prelude.{◌≡◌, ◌≢◌, ◌↔◌, ℕ, false};
 ghost use Rattle.sgt_model.specs.State.{Has};
 ghost use Rattle.sgt_model.specs.Paths.{Member, Reaches, Rising};
 
 use crate::standing::{fallen, has_reader, next_fall, without};
 use sgt_model::{Tid, Tids};
+
+/// Whether a transaction has read from t. If none has, none is aborted in cascade with t.
+pub fn is_read_from(read_from: &[(Tid, Tid)], t: Tid) -> bool
+    ensures { result ≡ false → (u : ℕ) → u ≢ t → Reaches (Has read_from.now) t u → ⊥ }
+{
+    has_reader(read_from, t)
+}
 
 /// Those aborted in cascade with t: the live ones other than t that have read from it, directly or through others.
 /// The result rises, whatever the order of the live ones.

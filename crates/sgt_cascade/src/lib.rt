@@ -11,4 +11,4 @@
 mod cascade;
 mod standing;
 
-pub use cascade::fallers;
+pub use cascade::{fallers, is_read_from};

@@ -1,13 +1,14 @@
 //! A graph in bit sets, with what each node reaches: the implementation that the program uses.
 ghost use Rattle.std.specs.Prelude.{◌≡◌, ℕ, ◌<◌, true, false, not, ◌||◌, ◌&&◌, nat_eq, IsTrue};
 ghost use Rattle.sgt_cycle.specs.Indices.{is_set, is_bit};
+ghost use Rattle.sgt_graph.specs.declared.verdict.Verdict.TheVariants.{Closes};
 ghost use Rattle.sgt_graph.specs.BitGraphs.{is_placed, is_pair, IsIndexVerdict, IsBitGraph, IsLinkOf};
 
 use crate::graph::Graph;
 use crate::guesses::Guesses;
 use crate::relation::Relation;
 use crate::tids::{index_of, indices_of, least_at, tids_at};
-use crate::verdict::{Link, Plan, Verdict};
+use crate::verdict::{Link, Plan};
 use sgt_cycle::indices::{complement, joined, least, meets, minus, only};
 use sgt_cycle::walk_rows;
 use sgt_model::{Tid, Tids};
@@ -67,10 +68,10 @@ impl Graph for BitGraph {
             unreachable!();
         };
         let from = indices_of(taken, &self.tids, &self.guesses, preds);
-        match self.verdict(to, from) {
-            Verdict::Accepted => Plan::Free(Link { to, from }),
-            Verdict::Closes(cycle) => Plan::Closes(cycle),
+        if meets(self.reached.row(to), from) {
+            return Plan::Closes(self.cycle(to, from));
         }
+        Plan::Free(Link { to, from })
     }
 
     fn link(&mut self, _t: Tid, _preds: &Tids, link: Link) {
@@ -98,17 +99,15 @@ impl Graph for BitGraph {
 }
 
 impl BitGraph {
-    /// Whether edges from the indices of the set to this one would leave the graph without a cycle.
-    fn verdict(&self, index: u8, from: u32) -> Verdict
+    /// The cycle that edges from the indices of the set to this one would close, where one of the set is reached from it.
+    #[inline(never)]
+    fn cycle(&self, index: u8, from: u32) -> Tids
         requires low { index < 32 }
-        requires apart { is_set from index ≡ false }
-        ensures { IsIndexVerdict self.now.1 self.now.2 self.now.3 index from result }
+        requires reached { (i : ℕ) × (is_bit self.now.3 index i ≡ true) × (is_set from i ≡ true) }
+        ensures { IsIndexVerdict self.now.1 self.now.2 self.now.3 index from (Closes result) }
     {
-        if !meets(self.reached.row(index), from) {
-            return Verdict::Accepted;
-        }
         match walk_rows(self.pairs.rows(), index, from) {
-            Some(cycle) => Verdict::Closes(tids_at(&self.tids, cycle.as_slice())),
+            Some(cycle) => tids_at(&self.tids, cycle.as_slice()),
             None => unreachable!(),
         }
     }

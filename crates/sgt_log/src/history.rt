@@ -5,7 +5,7 @@ ghost use Rattle.std.specs.Result.{IsOk};
 ghost use Rattle.std.specs.Option.{option_map};
 ghost use Rattle.sgt_model.specs.declared.entry.Entry.{Entry};
 ghost use Rattle.sgt_model.specs.declared.event.Event.TheVariants.{Start, Access, Commit};
-ghost use Rattle.sgt_model.specs.declared.reply.Reply.TheVariants.{Started, Committed};
+ghost use Rattle.sgt_model.specs.declared.reply.Reply.TheVariants.{Started, Committed, Waits};
 ghost use Rattle.sgt_model.specs.ShortReplies.{full_reply, reply_with};
 ghost use Rattle.sgt_log.specs.StoredEntries.{short_of, HasNoLists, HasKey};
 ghost use Rattle.sgt_log.specs.PackedEntries.{unpacked, step_entry, IsStep};
@@ -236,6 +236,7 @@ impl History {
                 let _count = lists.answers.len();
                 self.push_commit(*t, lists.answers.as_slice())
             }
+            (Event::Commit(t), ShortReply::Waits(first)) => self.push_waits(*t, *first),
             (Event::Access(t, request), ShortReply::Looked { key, value }) => {
                 self.push_access(*t, request, StoredReply::looked(key, value))
             }
@@ -324,6 +325,20 @@ impl History {
             t,
             from: part.from,
         });
+        self.spare -= 1;
+    }
+
+    // Adds a commit that waits for this transaction.
+    #[inline(always)]
+    fn push_waits(&mut self, t: Tid, first: Tid)
+        requires { 0 < self.old.spare }
+        ensures entries { self.new.entries
+            ≡ self.old.entries ++ record { event = Commit t; reply = Waits first } ∷ [] }
+        ensures spare { self.new.spare + 1 ≡ self.old.spare }
+        ensures capacities { self.new.capacities ≡ self.old.capacities }
+    {
+        self.entries
+            .push(StoredEvent::Commit(t), StoredReply::Waits(first));
         self.spare -= 1;
     }
 

@@ -1,5 +1,6 @@
 //! The records by key, with the chains of the keys that several live transactions have written.
-ghost use Rattle.std.specs.Prelude.{◌≡◌, ℕ, ◌<◌, Some, false, not, ◌&&◌, nat_eq, cond, length, [], IfSome, IfOk, OnOk};
+ghost use Rattle.std.specs.Prelude.{◌≡◌, ℕ, ◌<◌, ◌≤◌, ◌-◌, Some, true, false, not, ◌&&◌, nat_eq, cond, length, [], IfSome, IfOk, OnOk};
+ghost use Rattle.std.specs.List.{AllWithin};
 ghost use Rattle.std.specs.Option.{unwrap_or};
 ghost use Rattle.slab.specs.Slab.{HasRoomFor};
 ghost use Rattle.std.proofs.Props.{props};
@@ -8,6 +9,7 @@ ghost use Rattle.sgt_model.specs.Contents.{Key, key_eq};
 ghost use Rattle.sgt_model.specs.Databases.{contents_of, IsByKey};
 ghost use Rattle.sgt_model.specs.Chains.{chain_without, write_last, value_in, writes_in};
 ghost use Rattle.sgt_records.specs.Tops.{top_of, value_of_top};
+ghost use Rattle.sgt_records.specs.declared.live_write.LiveWrite.{LiveWrite};
 ghost use Rattle.sgt_records.specs.LiveWrites.{is_live, IndicesAgree};
 ghost use Rattle.sgt_records.specs.Slots.{key_chain, committed_of, IsIndex};
 ghost use Rattle.sgt_records.specs.Tables.{index_in, record_in};
@@ -170,13 +172,12 @@ impl Index {
         ensures left { (u : ℕ) (k : Key) → is_live u k live.new.items ≡ (not (nat_eq u t) && is_live u k live.old.items) }
         ensures returned { IndicesAgree (index_in self.old.table) live.new.items }
     {
-        let mut at = live.len();
+        let mut at = end_of(live.as_slice(), live.len(), t);
         while 0 < at {
             at -= 1;
-            if live[at].by == t {
-                let write = live.swap_remove(at);
-                self.settle(t, write.key, write.index);
-            }
+            let write = live.swap_remove(at);
+            self.settle(t, write.key, write.index);
+            at = end_of(live.as_slice(), at, t);
         }
     }
 
@@ -206,4 +207,25 @@ impl Index {
         }
         Ok(values)
     }
+}
+
+// The number of the writes up to the last of t among the first `count`; 0 if none of these is t's. Each turn looks at two.
+#[inline(always)]
+fn end_of(writes: &[LiveWrite], count: usize, t: Tid) -> usize
+    requires { count ≤ length writes.now }
+    ensures within { result ≤ count }
+    ensures own { AllWithin (λ (w : LiveWrite). nat_eq w.by t ≡ true) writes.now (result - 1) result }
+    ensures others { AllWithin (λ (w : LiveWrite). nat_eq w.by t ≡ false) writes.now result count }
+{
+    let mut at = count;
+    while 1 < at {
+        if writes[at - 1].by == t {
+            return at;
+        }
+        if writes[at - 2].by == t {
+            return at - 1;
+        }
+        at -= 2;
+    }
+    if at == 1 && writes[0].by == t { 1 } else { 0 }
 }

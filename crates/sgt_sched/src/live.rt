@@ -94,8 +94,8 @@ impl Live {
         self.index_by_marks(t)
     }
 
-    // The same. The index is guessed first. This stands apart, since the only live transaction does not come here.
-    #[inline(never)]
+    // The same. The index is guessed first.
+    #[inline(always)]
     fn index_by_marks(&self, t: Tid) -> Option<usize>
         requires rising { Rising (numbers self.now) }
         ensures { result ≡ position (has_number t) self.now }

@@ -11,7 +11,7 @@ ghost use Rattle.sgt_sched.specs.Scheduler.{state, Keeps, Turns};
 use crate::leave::leave;
 use crate::sched::Sched;
 use sgt_access::Accesses;
-use sgt_cascade::fallers;
+use sgt_cascade::{fallers, is_read_from};
 use sgt_commit::unwind;
 use sgt_graph::Graph;
 use sgt_model::{ReplyLists, ShortCause, ShortFate, Tid, Tids};
@@ -44,8 +44,21 @@ impl<R: Records, A: Accesses, G: Graph> Sched<R, A, G> {
         fell
     }
 
-    // Those that are aborted in cascade with a live transaction.
+    // Those that are aborted in cascade with a live transaction: mostly none.
+    #[inline(always)]
     fn falling_with(&self, t: Tid) -> Tids
+        requires live { (state self.now).nodes t ≡ true }
+        ensures { FallsIn (state self.now) t result }
+    {
+        if !is_read_from(self.read_from.as_slice(), t) {
+            return Tids::new();
+        }
+        self.readers_of(t)
+    }
+
+    // The same, if a transaction has read from it.
+    #[inline(never)]
+    fn readers_of(&self, t: Tid) -> Tids
         requires live { (state self.now).nodes t ≡ true }
         ensures { FallsIn (state self.now) t result }
     {

@@ -1,8 +1,8 @@
-use Rattle.std.proofs.Common.{◌≡◌, ℕ, List, true, sym, subst, refl, slice_index}
+use Rattle.std.proofs.Common.{rules, ◌≡◌, ℕ, List, true, false, sym, subst, refl, slice_index}
 use Rattle.std.specs.Prelude.{◌↔◌}
 use Rattle.std.proofs.lemmas.Bool.{both_ways}
 use Rattle.sgt_model.specs.Paths.{Member}
-use Rattle.sgt_cycle.specs.Indices.{is_set}
+use Rattle.sgt_cycle.specs.Indices.{is_set, is_bit}
 use Rattle.sgt_graph.specs.declared.verdict.Verdict.{Verdict}
 use Rattle.sgt_graph.specs.declared.verdict.Verdict.TheVariants.{Accepted, Closes}
 use Rattle.sgt_graph.specs.Verdicts.{IsVerdict}
@@ -10,7 +10,7 @@ use Rattle.sgt_graph.specs.BitGraphs.{is_at, is_pair, is_placed, IsBitGraph, IsI
 use Rattle.sgt_graph.proofs.Placed.{placed_at}
 use Rattle.sgt_graph.proofs.BitSteps.{verdict_of}
 use Rattle.sgt_graph.proofs.bit_graph.BitGraphGraph.plan.Goals as goal
-use Rattle.sgt_graph.proofs.bit_graph.BitGraphGraph.plan.Goals.{After-verdict}
+use Rattle.sgt_graph.proofs.bit_graph.BitGraphGraph.plan.Goals.{After-meets}
 
 pub unreachable-requires : goal.unreachable-requires
 unreachable-requires c =
@@ -19,38 +19,39 @@ unreachable-requires c =
     both_ways _ (c.in_default.ensures.none refl _) (placed_at c.self.inside.taken c.self.inside.tids c.args.t node)
 
 -- the value is a graph
-graph : (c : After-verdict) → IsBitGraph c.args.self.now.0 c.args.self.now.1 c.args.self.now.2 c.args.self.now.3
+graph : (c : After-meets) → IsBitGraph c.args.self.now.0 c.args.self.now.1 c.args.self.now.2 c.args.self.now.3
 graph c = subst (λ (v : ℕ × List ℕ × List ℕ × List ℕ). IsBitGraph v.0 v.1 v.2 v.3) c.self.view_is c.self.invariant
 
 -- t stands at the index
-here : (c : After-verdict) → is_at c.args.self.now.0 c.args.self.now.1 c.args.t c.in-Some.to ≡ true
+here : (c : After-meets) → is_at c.args.self.now.0 c.args.self.now.1 c.args.t c.in-Some.to ≡ true
 here c = subst (λ (v : ℕ × List ℕ × List ℕ × List ℕ). is_at v.0 v.1 c.args.t c.in-Some.to ≡ true) c.self.view_is c.in-Some.ensures.some.1
 
 -- and the others at those of the set
-exact : (c : After-verdict) (i : ℕ) → (is_set c.indices_of-from.result i ≡ true)
+exact : (c : After-meets) (i : ℕ) → (is_set c.indices_of-from.result i ≡ true)
     ↔ ((is_set c.args.self.now.0 i ≡ true) × Member (slice_index c.args.self.now.1 i) c.args.preds.now)
 exact c = subst (λ (v : ℕ × List ℕ × List ℕ × List ℕ). (i : ℕ)
     → (is_set c.indices_of-from.result i ≡ true) ↔ ((is_set v.0 i ≡ true) × Member (slice_index v.1 i) c.args.preds.now)) c.self.view_is
     c.indices_of-from.ensures
 
--- so what the verdict says of indices it says of transactions
-verdict : (c : After-verdict) (verdict : Verdict)
+-- so what is said of indices is said of transactions
+verdict : (c : After-meets) (verdict : Verdict)
     → IsIndexVerdict c.args.self.now.1 c.args.self.now.2 c.args.self.now.3 c.in-Some.to c.indices_of-from.result verdict
     → IsVerdict (is_pair c.args.self.now.0 c.args.self.now.1 c.args.self.now.2) c.args.t c.args.preds.now verdict
 verdict c = verdict_of c.args.self.now.0 c.args.self.now.1 c.args.self.now.2 c.args.self.now.3 (graph c) c.args.t c.in-Some.to
     c.indices_of-from.result c.args.preds.now (here c) (exact c) (λ u m. (c.requires.preds u m).1)
 
-pub returns-in-Accepted : goal.returns-in-Accepted
-returns-in-Accepted c =
-    let at = (goal.at.returns-in-Accepted c).After-verdict in
+pub returns-then-meets : goal.returns-then-meets
+returns-then-meets c = record {
+  plan = verdict (goal.at.returns-then-meets c).After-meets (Closes c.cycle.result) c.cycle.ensures;
+}
+
+pub returns : goal.returns
+returns c =
+    let at = (goal.at.returns c).After-meets in
+    let none_back : (j : ℕ) → is_set c.indices_of-from.result j ≡ true → is_bit c.args.self.now.3 c.in-Some.to j ≡ false = search rules in
     record {
       plan = (
-        verdict at Accepted c.in-Accepted.ensures,
-        record { low = c.in-Some.ensures.some.0; here = here at; exact = exact at; none_back = c.in-Accepted.ensures },
+        verdict at Accepted none_back,
+        record { low = c.in-Some.ensures.some.0; here = here at; exact = exact at; none_back = none_back },
       );
     }
-
-pub returns-in-Closes : goal.returns-in-Closes
-returns-in-Closes c = record {
-  plan = verdict (goal.at.returns-in-Closes c).After-verdict (Closes c.in-Closes.cycle) c.in-Closes.ensures;
-}

@@ -1,8 +1,7 @@
-use Rattle.std.proofs.Common.{rules, ◌≡◌, ◌-◌, ◌<◌, ◌≤◌, ◌+◌, ℕ, false, cond, nat_eq, List, length, get_or, swap_remove, vec_len, arith, sym, ap, subst, ◌∙◌, ⊎_elim}
+use Rattle.std.proofs.Common.{rules, ◌≡◌, ◌-◌, ◌<◌, ◌≤◌, ◌+◌, ℕ, true, false, inl, inr, cond, nat_eq, List, length, get_or, swap_remove, vec_len, arith, sym, ap, subst, ◌∙◌, ⊎_elim}
 use Rattle.std.specs.List.{AllWithin}
 use Rattle.std.specs.BTreeMap.{get}
-use Rattle.std.proofs.lemmas.Bool.{cases_eq, eqb-true}
-use Rattle.std.proofs.lemmas.List.{get_or_default}
+use Rattle.std.proofs.lemmas.Bool.{cases_eq, cases_lt, eqb-true}
 use Rattle.std.specs.Option.{unwrap_or}
 use Rattle.sgt_model.specs.Chains.{chain_without, value_in}
 use Rattle.sgt_model.specs.Databases.{key_cmp}
@@ -23,11 +22,16 @@ settle-requires c = record {
       c.swap_remove-write.ensures.value c.loop-at.invariant.returned;
 }
 
-pub loop-at-preserved-then-eq : goal.loop-at-preserved-then-eq
-loop-at-preserved-then-eq c =
+pub loop-at-preserved : goal.loop-at-preserved
+loop-at-preserved c =
     record {
-      within = omega (arith, within, long);
-      none = none;
+      within = omega (arith, within, long, some, c.end_of-at-in-loop-at.ensures.within);
+      own = subst (λ l. AllWithin (λ (x : LiveWrite). nat_eq x.by c.args.t ≡ true) l (next - 1) next) same c.end_of-at-in-loop-at.ensures.own;
+      none = λ k d low high. elim (cases_lt k at) [
+        | inl below ↦ subst (λ l. AllWithin (λ (x : LiveWrite). nat_eq x.by c.args.t ≡ false) l next at) same
+            c.end_of-at-in-loop-at.ensures.others k d low below
+        | inr above ↦ none k d above high
+      ];
       others = λ u k other. ap (is_live u k) is_left ∙ others_taken old at w short c.swap_remove-write.ensures.value c.args.t own u k other
           ∙ c.loop-at.invariant.others u k other;
       chain = λ k. ap (λ l. cond (is_live c.args.t k l) (chain_without c.args.t (key_chain (record_in after.table) after.chains k))
@@ -71,11 +75,15 @@ loop-at-preserved-then-eq c =
     is_left : new ≡ swap_remove old at w
     is_left = c.swap_remove-write.ensures.items
 
-    read : c.index.result.now ≡ w
-    read = c.index.ensures ∙ get_or_default old at c.index.result.now w short ∙ sym c.swap_remove-write.ensures.value
+    next : ℕ
+    next = c.end_of-at-in-loop-at.result
+
+    same : c.as_slice-in-loop-at.result.now ≡ new
+    same = c.as_slice-in-loop-at.ensures.value
 
     own : w.by ≡ c.args.t
-    own = eqb-true w.by c.args.t (ap (λ (x : LiveWrite). nat_eq x.by c.args.t) (sym read) ∙ sym c.eq.ensures ∙ c.if-eq.true)
+    own = eqb-true w.by c.args.t (ap (λ (x : LiveWrite). nat_eq x.by c.args.t) c.swap_remove-write.ensures.value
+        ∙ c.loop-at.invariant.own at w (omega arith) (omega (arith, some)))
 
     long : length new + 1 ≡ length old
     long = search rules
