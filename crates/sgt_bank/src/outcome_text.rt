@@ -1,8 +1,9 @@
 //! The line of a job's outcome.
-ghost use Rattle.std.specs.Prelude.{◌≡◌, ◌++◌, take, vec_len, slice_get, IfOk, OnOk, OnErr};
+ghost use Rattle.std.specs.Prelude.{◌≡◌, ◌++◌, take, vec_len, slice_get, IfOk, IfSome, OnOk, OnErr, codes};
+ghost use Rattle.std.specs.Fmt.{signed_decimal};
 ghost use Rattle.sgt_bank.specs.OutcomeText.{commit_words, code_words, raised_words, refusal_words, words_at, outcome_words, outcome_line};
 
-use sgt_format::{append_answers, append_number, append_numbered};
+use sgt_format::{append_answers, append_commit_line, append_number, append_numbered};
 use sgt_log::{EntryRef, History};
 use sgt_model::{Cause, NoMemory, Reply};
 use sgt_workers::Outcome;
@@ -36,10 +37,44 @@ pub(crate) fn append_outcome<N>(
         (lines.new.items ≡ lines.old.items ++ outcome_line number history.now.entries outcome.now) }
     ensures err { OnErr result (take (vec_len lines.old) lines.new.items ≡ lines.old.items) }
 {
+    // Most lines are of this kind, and are written at once.
+    if let Some(answer) = lone_answer(outcome, history) {
+        return append_commit_line(lines, u64::from(number), answer);
+    }
     append_number(lines, number)?;
     lines.extend_from_slice(b" ")?;
     append_words(lines, outcome, history)?;
     lines.extend_from_slice(b"\n")
+}
+
+/// The answer of an outcome that is a commit with one answer.
+fn lone_answer<N>(outcome: &Outcome<N>, history: &History) -> Option<i64>
+    ensures { IfSome result (λ answer.
+        outcome_words history.now.entries outcome.now ≡ codes "committed " ++ signed_decimal answer) }
+{
+    match outcome {
+        Outcome::Done(n) => match history.get_entry(*n as usize) {
+            Some(entry) => lone_answer_of(&entry),
+            None => None,
+        },
+        _ => None,
+    }
+}
+
+/// The answer of an entry that commits with one answer.
+fn lone_answer_of(entry: &EntryRef<'_>) -> Option<i64>
+    ensures { IfSome result (λ answer.
+        commit_words entry.now.reply ≡ codes "committed " ++ signed_decimal answer) }
+{
+    if !entry.is_commit() {
+        return None;
+    }
+    let answers = entry.answers();
+    if answers.len() == 1 {
+        Some(answers[0])
+    } else {
+        None
+    }
 }
 
 /// Appends the words of an outcome. On an error the line still begins with what it held.

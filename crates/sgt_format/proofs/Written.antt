@@ -47,6 +47,16 @@ adds_three (Ok value) old line first second third rest new start added is follow
     ∙ sym (append_assoc (old ++ first) second third)
 adds_three (Err error) old line first second third rest new start added is following whole within = tt
 
+-- or four
+pub adds_four : {T E : Type 0} (result : Result T E) (old line first second third fourth rest new : List ℕ) (start : ℕ)
+    → OnOk result (new ≡ old ++ take (64 - start) (drop start line)) → drop start line ≡ first ++ (second ++ (third ++ (fourth ++ rest)))
+    → length rest ≡ 32 → length line ≡ 96 → start ≤ 64 → OnOk result (new ≡ (((old ++ first) ++ second) ++ third) ++ fourth)
+adds_four (Ok value) old line first second third fourth rest new start added is following whole within =
+    adds_three {T = ℕ} {E = ℕ} (Ok 0) old line first second (third ++ fourth) rest new start added
+    (is ∙ ap (λ more. first ++ (second ++ more)) (sym (append_assoc third fourth rest))) following whole within
+    ∙ sym (append_assoc ((old ++ first) ++ second) third fourth)
+adds_four (Err error) old line first second third fourth rest new start added is following whole within = tt
+
 -- of which the first two are one
 pub adds_grouped : {T E : Type 0} (result : Result T E) (old line first second third rest new : List ℕ) (start : ℕ)
     → OnOk result (new ≡ old ++ take (64 - start) (drop start line)) → drop start line ≡ first ++ (second ++ (third ++ rest))

@@ -56,6 +56,21 @@ pub(crate) fn append_number_line(
     append_written(lines, &line, start)
 }
 
+/// Appends the line of a job that committed with one answer.
+#[inline(always)]
+pub fn append_commit_line(lines: &mut Vec<u8>, number: u64, answer: i64) -> Result<(), AllocError>
+    ensures ok { OnOk result (lines.new.items
+        ≡ lines.old.items ++ decimal number ++ codes " committed " ++ signed_decimal answer ++ codes "\n") }
+    ensures err { OnErr result (lines.new.items ≡ lines.old.items) }
+{
+    let mut line = [0; LINE_AND_CHUNK];
+    let start = write_byte(b'\n', &mut line, LONGEST_LINE);
+    let start = write_signed(answer, &mut line, start);
+    let start = write_words(b" committed ", &mut line, start);
+    let start = write_digits(number, &mut line, start);
+    append_written(lines, &line, start)
+}
+
 /// Appends what a line holds from `start` to its end at [`LONGEST_LINE`]. If there is capacity, a line of at most 32 bytes is
 /// appended with what is after it, which is cut off: 32 bytes are copied at once.
 #[inline(always)]

@@ -45,7 +45,7 @@ mod tree;
 pub use call::JobCall;
 pub use cut_text::{append_cut, append_still_live};
 pub use database_text::append_database;
-pub use decimal_text::{append_answers, append_number, append_numbered};
+pub use decimal_text::{append_answers, append_commit_line, append_number, append_numbered};
 pub use errors::{LineError, OpeningError};
 pub use event_line::read_event;
 pub use job_line::read_job;
