@@ -1,6 +1,6 @@
 -- The newest reply is what a turn that is done returns.
 use Rattle.std.proofs.Common.{◌≡◌, ◌≢◌, ◌↔◌, ◌⊎◌, inl, inr, ℕ, ℤ, pos, ◌≤◌, Bool, true, false, nat_eq, cond, List, [], ◌∷◌, Option, Some, None, refl, sym, ap, subst, ◌∙◌}
-use Rattle.std.specs.Prelude.{Result, Ok, Err, IsSome, IsNone}
+use Rattle.std.specs.Prelude.{Result, Ok, IsSome, IsNone}
 use Rattle.sgt_model.specs.Contents.{Key}
 use Rattle.sgt_model.specs.declared.event.Request.TheVariants.{Read, Write}
 use Rattle.sgt_model.specs.Numbers.{IsValue}
@@ -11,7 +11,7 @@ use Rattle.sgt_model.specs.declared.short_reply.ShortReply.{ShortReply}
 use Rattle.sgt_model.specs.ShortReplies.{reply_with}
 use Rattle.sgt_engine.specs.EngineView.{HasLists}
 use Rattle.sgt_desk.specs.declared.ask.Turn.{Turn}
-use Rattle.sgt_desk.specs.declared.ask.Turn.TheVariants.{Done, Rest, Late, Again, Stale}
+use Rattle.sgt_desk.specs.declared.ask.Turn.TheVariants.{Done}
 use Rattle.sgt_desk.specs.declared.making.Asked.{Asked}
 use Rattle.sgt_desk.specs.declared.making.Asked.TheVariants.{Step, Access, Quit}
 use Rattle.sgt_desk.specs.Runs.{IsOutcome}
@@ -23,11 +23,7 @@ use Rattle.sgt_c.specs.ReplyStructs.{HoldsReply}
 -- the status 0 is that of a call that is done
 pub done_of : (m : Result Turn NoMemory) (status : ℕ) → status ≡ status_of m → status ≡ 0 → m ≡ Ok Done
 done_of (Ok Done) status is e = refl
-done_of (Ok Rest) status is e = absurd (cc (sym is ∙ e))
-done_of (Ok Late) status is e = absurd (cc (sym is ∙ e))
-done_of (Ok Again) status is e = absurd (cc (sym is ∙ e))
-done_of (Ok Stale) status is e = absurd (cc (sym is ∙ e))
-done_of (Err x) status is e = absurd (cc (sym is ∙ e))
+done_of _ status is e = absurd (cc (sym is ∙ e))
 
 pub reports_outcome : (short : ShortReply) (ticket : Option ℕ) (past : List Entry) (lists : ReplyLists) (reported : SgtReply)
     → IsOutcome short ticket past → HasLists past lists → HoldsReply reported (reply_with short lists) → ReportsNewest reported past

@@ -1,7 +1,7 @@
 //! Numbers for turns.
 ghost use Rattle.std.specs.Prelude.{◌≡◌, ◌≢◌, ◌||◌, true, nat_eq, Ok};
 ghost use Rattle.sgt_model.specs.ShortReplies.{reply_with};
-ghost use Rattle.sgt_c.specs.DeskTurns.{status_of};
+ghost use Rattle.sgt_c.specs.DeskTurns.{IsTurn, status_of};
 ghost use Rattle.sgt_c.specs.KeptFields.{KeepsOtherFields};
 ghost use Rattle.sgt_c.specs.ReplyStructs.{HoldsReply};
 
@@ -12,7 +12,8 @@ use sgt_model::{NoMemory, ReplyLists, ShortReply};
 
 /// The number of what comes next.
 pub fn status_of(turn: &Result<Turn, NoMemory>) -> u32
-    ensures { result ≡ status_of turn.now }
+    ensures number { result ≡ status_of turn.now }
+    ensures turns { IsTurn result }
 {
     match turn {
         Ok(Turn::Done) => status::OK,
@@ -34,20 +35,27 @@ pub fn note_wake(wakes: &mut u32, woken: bool)
     }
 }
 
-/// Writes the reply of a call, if it is done.
+/// Notes that all that rest are to be woken, if so; writes the reply of a call, if it is done; and returns the number of what comes next.
 #[inline(always)]
-pub fn report(
-    into: &mut SgtReply,
+pub fn end_turn(
     turn: &Result<Turn, NoMemory>,
     short: &ShortReply,
     lists: &ReplyLists,
-)
+    woken: bool,
+    into: &mut SgtReply,
+    wakes: &mut u32,
+) -> u32
+    ensures next { result ≡ status_of turn.now }
+    ensures turns { IsTurn result }
     ensures reported { turn.now ≡ Ok Turn.Done → HoldsReply into.new (reply_with short.now lists.now) }
     ensures kept { turn.now ≡ Ok Turn.Done → KeepsOtherFields into.old into.new }
     ensures unwritten { turn.now ≢ Ok Turn.Done → into.new ≡ into.old }
+    ensures woken { nat_eq wakes.new 1 ≡ (woken || nat_eq wakes.old 1) }
 {
     match turn {
         Ok(Turn::Done) => write_reply(into, short, lists),
         _ => (),
     }
+    note_wake(wakes, woken);
+    status_of(turn)
 }
