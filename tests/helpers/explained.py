@@ -1,4 +1,4 @@
-"""Why the transactions of a script were aborted, worked out anew from its lines and their replies.
+"""Why the transactions of a script were aborted, and for which their commits wait, worked out anew from its lines and their replies.
 
 It knows the accesses by their replies alone, and of procedures those of `legal`, for the access that an aborted transaction was
 about to make.
@@ -136,6 +136,9 @@ class Part:
             return [refusal(event, reply) + " since the cut" * (reply == "unknown" and self.is_after_cut)]
         elif reply.startswith("over "):
             return [refusal(event, "over")]
+        elif reply.startswith("waits "):
+            edges = [(t, self.edge(t, first)) for t in sorted(self.live - {first})]
+            return [f"{first} waits for {t}: {edge}" for t, edge in edges if edge]
         elif reply.startswith("committed "):
             self.live.remove(first)
         elif match := re.fullmatch("(?:aborted|refused) (.*) fell (.*)", reply):
@@ -143,6 +146,7 @@ class Part:
             fell = [] if match[2] == "none" else [int(t) for t in match[2].split()]
             codes = re.findall("^(?:asked )?([0-9]+)$", match[1])
             texts = [f"{name_of(self.calls[first][0])} aborted {first} with {code_text(self.calls[first][0], int(code))}" for code in codes]
+            texts += self.unsettled(first, self.live - {first, *fell}) * match[1].startswith("asked ")
             texts += [self.edge(t, u) for t, u in zip(walk, walk[1:])] + ([self.pending(walk[-1], walk[0], event)] if walk else [])
             texts += [self.fall(u, {first, *fell}) for u in fell]
             self.gone |= {first, *fell}
@@ -162,12 +166,12 @@ class Part:
         return " and".join([f" read at line {line}" for line in looks[:1]] + [f" wrote at line {line}" for line in stores[:1]])
 
     def edge(self, t, u):
-        """By the first access of the second that conflicts with one of the first before it."""
+        """By the first access of the second that conflicts with one of the first before it. None if there is no such."""
         for place, (line, whose, done, key, *_) in enumerate(self.accesses):
             earlier = self.conflicting(t, done, key, self.accesses[:place])
             if whose == u and earlier:
                 return f"{u} {done} {key} at line {line}, which {t}{earlier}"
-        raise AssertionError(f"no edge from {t} to {u}")
+        return None
 
     def pending(self, t, u, event):
         """By the access that the second was about to make: that of its caller's line, or that of its procedure."""
@@ -181,6 +185,12 @@ class Part:
             kind, key, _ = run.access
         would, done = ("read", "read") if kind == "look" else ("write", "wrote")
         return f"{u} would {would} {key_text(key)}, which {t}{self.conflicting(t, done, key_text(key), self.accesses)}"
+
+    def unsettled(self, u, live):
+        """By its first read of a value of each of these."""
+        reads = [(line, key, source) for line, whose, done, key, _, source in self.accesses if (whose, done) == (u, "read")]
+        firsts = [next(((key, t, line) for line, key, source in reads if source == t), None) for t in sorted(live)]
+        return [f"the code may rest on an uncommitted value: {u} read {key} of {t} at line {line}" for key, t, line in filter(None, firsts)]
 
     def fall(self, u, undone):
         """By its first look that read from another one of these."""

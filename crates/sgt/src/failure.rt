@@ -228,16 +228,42 @@ const AN_ENTRY: &str =
 fn json_hint(line: &[u8], column: usize) -> Option<&'static str> {
     let index = column.saturating_sub(1);
     let before = line.get(..index)?.trim_ascii_end();
+    let rest = line.get(index..)?;
+    if is_no_number(rest) {
+        return Some("JSON has no NaN and no Infinity");
+    }
     match line.get(index)? {
         b'\'' => Some("a text stands in double quotes in JSON"),
         b'N' | b'T' | b'F' => Some("JSON has null, true and false, in small letters"),
-        b'a'..=b'z' if !is_torn(line.get(index..)?) => Some(
+        b'a'..=b'z' if !is_torn(rest) => Some(
             "a word stands in double quotes in JSON, but for null, true and false",
         ),
         b'(' => Some("a list stands in square brackets in JSON"),
         b'/' | b'#' => Some("JSON has no comments"),
+        b'.' | b'+' | b'-' | b'0' if is_odd_number(rest) => Some(
+            "a number is written as 10 or -5 in JSON, without a plus, a leading zero or other signs",
+        ),
+        b':' if before.ends_with(b"{") => Some(
+            "this entry is EDN, and the first one is JSON: an input has one of them",
+        ),
         b']' | b'}' if before.ends_with(b",") => Some("nothing stands after the comma in JSON"),
         _ => None,
+    }
+}
+
+/// Whether these bytes start with what some programs write for a number that is none.
+fn is_no_number(bytes: &[u8]) -> bool {
+    bytes.starts_with(b"NaN") || bytes.starts_with(b"Infinity") || bytes.starts_with(b"-Infinity")
+}
+
+/// Whether these bytes, which start with a dot, a sign or a zero, start with a number that JSON writes otherwise.
+fn is_odd_number(bytes: &[u8]) -> bool {
+    match bytes {
+        [b'.' | b'+', ..] => true,
+        [b'0', next, ..] => next.is_ascii_alphanumeric(),
+        [b'-', b'0', next, ..] => next.is_ascii_digit(),
+        [b'-', next, ..] => next.is_ascii_alphabetic() || *next == b'.',
+        _ => false,
     }
 }
 

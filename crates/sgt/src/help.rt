@@ -69,7 +69,7 @@ them is an event and gets one line of reply. The committed database comes last.
   read        a read on which the caller decides, once the procedure has ended: the transaction, a
               table and a number in it
   write       a write of the value that comes last
-  remove      a write that removes the record
+  remove      a write that removes the record: --explain says that it wrote
   cut         ends this part of the history, if no transaction is live: transactions are numbered
               from 0 again, and the limit of starts counts anew
 
@@ -91,11 +91,15 @@ the number in the reply to its start. A start that is refused takes no number.
 
 With --explain, standard error says after each abort which accesses make the edges of the cycle, or
 which procedure raised a code, and which reads made other transactions abort in cascade. It says why
-an event was refused. At the end it lists the live transactions:
+an event was refused, and for which live transactions a commit waits. With a third limit of 0, it
+says which uncommitted values a procedure had read that raised a code: if they are undone, no serial
+run may give that code. At the end it lists the live transactions:
 
   line 9: 0 wrote 1/101 at line 8, which 1 read at line 6
   line 9: 1 would write 2/101, which 0 read at line 5
+  line 12: 1 waits for 0: 1 read 2/101 at line 7, which 0 wrote at line 6
   line 20: TransactSaving aborted 2 with code 3 (the saving would be negative)
+  line 20: the code may rest on an uncommitted value: 2 read 1/101 of 1 at line 18
   line 25: 3 read 2/101 of 2 at line 20
   line 26: DepositChecking takes 2 arguments, found 1
   1 transaction is live at the end: 4
@@ -111,8 +115,9 @@ writes them:
   {"transaction":1,"reply":"aborted","cause":"cycle","cycle":[1,0],"cascade":[]}
   ["record",0,1,101]
 
-The first bad line ends the script. The replies to the lines before it are written, and the error is
-on standard error, with a second line that explains it:
+The exit status is 0 if all lines are answered, whatever the replies: also if each is 'spent'.
+The first bad line ends the script, with status 2. The replies to the lines before it are written,
+and the error is on standard error, with a second line that explains it:
 
   line 27: bad line
   expected ["step",transaction], found ["step"]
@@ -125,10 +130,11 @@ examples/ has scripts."#;
 /// What `sgt bank --help` prints after the options.
 pub(crate) const BANK_HELP: &str =
     r#"Line 1 and the record lines after it are as in a script. If line 1 is too short for the accounts,
-write them as record lines of tables 0, 1 and 2, as --json ends with. Each later line is a job: one
-call of a procedure. The workers take the jobs in turn and run them at the same time, each as a
-transaction of its own. A job that a conflict aborts is tried again. The output has a line for each
-job, numbered from 0, and then the committed database:
+write them as record lines of tables 0, 1 and 2, as --json ends with: to go on from those of a run,
+leave the accounts of line 1 empty. Each later line is a job: one call of a procedure. The workers
+take the jobs in turn and run them at the same time, each as a transaction of its own. A job that a
+conflict aborts is tried again. The output has a line for each job, numbered from 0, and then the
+committed database:
 
   {"limits":[32,1000],"accounts":[[1,101,500,1000]],"procedures":[]}
   ["job",1,[1,50]]

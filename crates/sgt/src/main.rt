@@ -1,7 +1,7 @@
 //! The program `sgt`, with three subcommands:
 //!
 //! - `sgt script` runs a script of JSON lines on an engine. It writes a line for each reply, and then the committed
-//!   database. On request it explains on standard error why transactions are aborted and events refused.
+//!   database. On request it explains on standard error why transactions abort or wait and events are refused.
 //! - `sgt bank` runs jobs on worker threads. It writes a line for each job's outcome, and then the committed
 //!   database. On request it reports on standard error how the jobs ended, and why.
 //! - `sgt check` reads a history. It writes the classes that the history belongs to, its serialization graph, or a
@@ -209,7 +209,7 @@ fn script_options<'a>(alloc: Global) -> Result<Vec<Arg<'a>>, AllocError> {
         [
             "Writes the run as a history for 'sgt check', instead of the replies",
             "Writes the committed database as records, instead of the replies",
-            "Explains on standard error why transactions are aborted and events refused",
+            "Explains on standard error aborts, commits that wait and refused events",
             "Writes each reply as an object of JSON, and then the records",
             "Says on standard error, once a second, how many events are answered",
             NO_PROGRESS,

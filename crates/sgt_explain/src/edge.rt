@@ -131,8 +131,13 @@ fn pending_edge(
     })
 }
 
-// Why one comes before another in the entries before `end`, if it does.
-fn pair_edge(history: &IndexedHistory, end: usize, from: Tid, to: Tid) -> Option<CycleEdge>
+/// Why one comes before another in the entries before `end`, if it does.
+pub(crate) fn pair_edge(
+    history: &IndexedHistory,
+    end: usize,
+    from: Tid,
+    to: Tid,
+) -> Option<CycleEdge>
     requires { end ≤ length history.now }
     ensures reported { IfSome result (ReportsPair history.now end from to) }
     ensures some { IsSome result ↔ Precedes (entries_before history.now end) from to }

@@ -37,6 +37,7 @@ mod requested;
 mod search;
 mod source;
 mod text;
+mod wait;
 mod words;
 mod writers;
 
@@ -48,4 +49,5 @@ pub use indexed_history::IndexedHistory;
 pub use refusal::{Refusal, append_refusal, refusal_of};
 pub use requested::requested_by;
 pub use source::{SourceRead, fall_source};
+pub use wait::append_live_causes;
 pub use words::Words;

@@ -50,6 +50,28 @@ pub fn fall_source(history: &IndexedHistory, place: usize, number: usize) -> Opt
     }
 }
 
+/// The first read by one transaction, before the end, of a value that another one wrote. None if there is none.
+pub(crate) fn read_from(
+    history: &IndexedHistory,
+    end: usize,
+    reader: Tid,
+    source: Tid,
+) -> Option<SourceRead>
+    requires { end ≤ length history.now }
+    ensures look { IfSome result (λ read. ReportsLook history.now reader read.place read) }
+    ensures source { IfSome result (λ read. read.source ≡ source) }
+{
+    let low = history.first(source);
+    for place in history.first(reader).min(end)..end {
+        if let Some(read) = source_at(history, low, place, reader) {
+            if read.source == source {
+                return Some(read);
+            }
+        }
+    }
+    None
+}
+
 // The transaction's first read before the end from one that is aborted there.
 fn first_source(history: &IndexedHistory, end: usize, reader: Tid) -> Option<SourceRead>
     requires { end < length history.now }

@@ -17,6 +17,38 @@ pub fn append_edge(
     lines: &[u64],
 ) -> Result<(), AllocError> {
     append_place(text, b"", place, lines)?;
+    append_accesses(text, edge, lines)
+}
+
+/// Appends the line of an edge because of which the commit at this position waits, as
+/// `line 12: 1 waits for 0: 1 read 2/101 at line 9, which 0 wrote at line 7`. The list is as for `append_explanation`.
+pub fn append_wait(
+    text: &mut Vec<u8>,
+    edge: &CycleEdge,
+    place: usize,
+    lines: &[u64],
+) -> Result<(), AllocError> {
+    append_place(text, b"", place, lines)?;
+    append_number(text, b": ", edge.to.0)?;
+    append_number(text, b" waits for ", edge.from.0)?;
+    append_accesses(text, edge, lines)
+}
+
+/// Appends the line of a read of an uncommitted value on which the code at this position may rest, as
+/// `line 12: the code may rest on an uncommitted value: 1 read 2/101 of 0 at line 9`. The list is as there.
+pub fn append_unsettled(
+    text: &mut Vec<u8>,
+    read: &SourceRead,
+    place: usize,
+    lines: &[u64],
+) -> Result<(), AllocError> {
+    append_place(text, b"", place, lines)?;
+    text.extend_from_slice(b": the code may rest on an uncommitted value")?;
+    append_read(text, read, lines)
+}
+
+// Appends both accesses of an edge, and ends the line.
+fn append_accesses(text: &mut Vec<u8>, edge: &CycleEdge, lines: &[u64]) -> Result<(), AllocError> {
     append_number(text, b": ", edge.to.0)?;
     append_later(text, edge, lines)?;
     append_number(text, b", which ", edge.from.0)?;
@@ -33,10 +65,15 @@ pub fn append_source(
     lines: &[u64],
 ) -> Result<(), AllocError> {
     append_place(text, b"", place, lines)?;
-    append_number(text, b": ", source.reader.0)?;
-    append_key(text, b" read ", source.key)?;
-    append_number(text, b" of ", source.source.0)?;
-    append_place(text, b" at ", source.place, lines)?;
+    append_read(text, source, lines)
+}
+
+// Appends a read of another transaction's value, and ends the line.
+fn append_read(text: &mut Vec<u8>, read: &SourceRead, lines: &[u64]) -> Result<(), AllocError> {
+    append_number(text, b": ", read.reader.0)?;
+    append_key(text, b" read ", read.key)?;
+    append_number(text, b" of ", read.source.0)?;
+    append_place(text, b" at ", read.place, lines)?;
     text.extend_from_slice(b"\n")
 }
 

@@ -1,21 +1,18 @@
 //! Explains in words what is wrong with a line of the input, for a person who has the fault of a run.
 //!
 //! A [`Fault`](sgt_input::Fault) names a line and a kind. After the run has ended, [`diagnose`] reads that line once
-//! more. It says in one line where the error is and what was expected there. A [`Remembering`] source passes on the
-//! bytes of another source and stores the newest lines, so the line can be read again. [`explain`] combines the two.
-//! No run depends on this: its output and its end stay the same. If memory runs out for an explanation, there is none.
+//! more. It says in one line where the error is and what was expected there. No run depends on this: its output and its
+//! end stay the same. A [`Remembering`] source passes on the bytes of another source and stores the newest lines, so a
+//! line can be read again.
 //!
 //! [`explain_opening`] and [`explain_procedure`] explain a text that is refused, without a run.
 //!
 //! Parts of the input are shortened when shown, and contain only printable ASCII.
 //!
 //! ```
-//! let mut source = Remembering::new(alloc, Reader::new(rt.reader()));
-//! if let Err(fault) = run_script(alloc, &mut source, &mut sink) {
-//!     eprintln!(rt; "{fault}")?; // "line 1: bad limits"
-//!     if let Some(text) = explain(alloc, &fault, Command::Script, &source) {
-//!         eprintln!(rt; "{text}")?; // "\"limits\": the first number is 33, and has to be from 1 to 32"
-//!     }
+//! eprintln!(rt; "{fault}")?; // "line 1: bad limits"
+//! if let Some(text) = diagnose(alloc, &fault, Command::Script, line)? {
+//!     eprintln!(rt; "{text}")?; // "column 12: \"limits\": the first number is 33, and has to be from 1 to 32"
 //! }
 //! ```
 #![tactic(auto)]
@@ -26,7 +23,6 @@ mod column;
 mod command;
 mod diagnosis;
 mod excerpt;
-mod explanation;
 mod flaw;
 mod grammar;
 mod json_text;
@@ -47,6 +43,5 @@ mod typed;
 
 pub use command::Command;
 pub use diagnosis::diagnose;
-pub use explanation::explain;
 pub use refusal::{explain_opening, explain_procedure};
 pub use remembering::Remembering;

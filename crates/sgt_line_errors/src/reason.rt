@@ -189,7 +189,7 @@ fn words_at(next: Next, top: Option<&Open>, kind: TokenKind, rest: &[u8]) -> &'s
             A_COLON
         },
         (_, TokenKind::Comma) => "nothing stands before the comma",
-        (_, TokenKind::Word) => "a word stands in double quotes",
+        (_, TokenKind::Word) => word_words(rest),
         (Next::FirstName, TokenKind::Opens(_) | TokenKind::Plain | TokenKind::BadNumber) =>
             "the name of a member stands here in double quotes; a list stands in square brackets",
         (Next::Name | Next::FirstName, TokenKind::Other) => other_words(rest).unwrap_or(A_NAME),
@@ -198,6 +198,17 @@ fn words_at(next: Next, top: Option<&Open>, kind: TokenKind, rest: &[u8]) -> &'s
         _ => other_words(rest).unwrap_or(
             "a value stands here: a number, a text in double quotes, or a list in square brackets",
         ),
+    }
+}
+
+// What is said of a word that stands for a value.
+fn word_words(rest: &[u8]) -> &'static str {
+    match rest {
+        [b'N', b'a', b'N', ..] | [b'I', b'n', b'f', ..] => "JSON has no NaN and no Infinity",
+        [b'N', b'o', b'n', b'e', ..]
+        | [b'T', b'r', b'u', b'e', ..]
+        | [b'F', b'a', b'l', b's', ..] => "JSON has null, true and false, in small letters",
+        _ => "a word stands in double quotes",
     }
 }
 

@@ -1,5 +1,5 @@
-//! The explanations of a run on a second sink: why transactions are aborted and events refused, and which are live at
-//! the end.
+//! The explanations of a run on a second sink: why transactions are aborted, commits wait and events are refused, and
+//! which transactions are live at the end.
 ghost use Rattle.std.specs.Prelude.{◌+◌, ◌^◌, ◌<◌};
 
 use crate::coded::append_coded;
@@ -8,18 +8,18 @@ use crate::observer::Observer;
 use crate::pending::pending_by;
 use crate::refused::append_refused;
 use sgt_assembly::SgtEngine;
-use sgt_explain::{IndexedHistory, Pending, Words, append_explanation};
+use sgt_explain::{IndexedHistory, Pending, Words, append_explanation, append_live_causes};
 use sgt_input::{Lines, Sink, write_all};
 use sgt_log::History;
-use sgt_model::{Event, NoMemory};
+use sgt_model::{Event, NoMemory, Tid};
 use std::alloc::Global;
 use std::marker::Model;
 
 /// The line at the end if memory ran out for an explanation.
 const LEFT_OUT: &[u8] = b"explanations are left out: no memory\n";
 
-/// Writes to a sink why transactions are aborted and events refused, and which are live at the end. Explanations are
-/// gathered, and written after the answers that they belong to. After a failed write it writes no more.
+/// Writes to a sink why transactions are aborted, commits wait and events are refused, and which are live at the end.
+/// Explanations are gathered, and written after the answers that they belong to. After a failed write it writes no more.
 #[derive(Drop)]
 pub(crate) struct Explainer<'a, E: Sink> {
     alloc: Global,
@@ -133,6 +133,29 @@ impl<'a, E: Sink> Explainer<'a, E> {
         }
     }
 
+    // Gathers for which live transactions the commit at a position waits, or on which of their values its code may rest.
+    fn explain_live(&mut self, engine: &SgtEngine, place: usize) {
+        let concerns_live = aborts_at(engine.history(), place) || waits_at(engine.history(), place);
+        let live = engine.sched().live();
+        if concerns_live && self.append_live(live.as_slice(), place).is_err() {
+            self.has_lost = true;
+        }
+    }
+
+    // Appends that. If an allocation fails, or failed for an entry, it appends nothing.
+    fn append_live(&mut self, live: &[Tid], place: usize) -> Result<(), NoMemory> {
+        if self.history.len() <= place {
+            return Err(NoMemory);
+        }
+        append_live_causes(
+            &mut self.text,
+            &self.history,
+            place,
+            live,
+            self.lines.as_slice(),
+        )
+    }
+
     // Gathers why the newest entry, of this line, is refused, if it is.
     fn explain_refusal(&mut self, engine: &SgtEngine, line: u64) {
         if append_refused(&mut self.text, engine, line, self.is_after_cut).is_err() {
@@ -167,6 +190,7 @@ impl<E: Sink> Observer for Explainer<'_, E> {
             self.note_line(entries - 1, line);
             self.note_entry(engine.history(), entries - 1);
             self.explain_code(engine, line);
+            self.explain_live(engine, entries - 1);
             self.explain_at(engine, entries - 1);
             self.explain_refusal(engine, line);
         }
@@ -180,6 +204,14 @@ impl<E: Sink> Observer for Explainer<'_, E> {
         if append_live(self.alloc, &mut self.text, engine.sched().live().as_slice()).is_err() {
             self.has_lost = true;
         }
+    }
+}
+
+// Whether the entry at a position is a commit that waits.
+fn waits_at(history: &History, place: usize) -> bool {
+    match history.get_entry(place) {
+        Some(entry) => entry.is_wait(),
+        None => false,
     }
 }
 

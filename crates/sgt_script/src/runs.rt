@@ -74,10 +74,12 @@ pub fn run_script<S: Source, T: Sink>(
 ///   number. At a fault nothing is written, except the part before a failed write.
 /// - `Json`: the reply to each line as an object of JSON, and then what `Records` writes.
 ///
-/// With a sink for explanations, it writes there why transactions are aborted and events refused:
+/// With a sink for explanations, it writes there why transactions abort or wait and events are refused:
 ///
 /// - An abort by a cycle gets a line for each edge of the cycle, with its accesses.
-/// - An abort with a code gets a line that says which procedure raised it, and what the words say of the code.
+/// - An abort with a code gets a line that says which procedure raised it, and what the words say of the code. If the
+///   code came at the step, a line for each live transaction says which value of it the aborted one had read first.
+/// - A commit that waits gets a line for each live transaction before its own, with the accesses of that edge.
 /// - Each cascading abort gets a line that says which transaction it had read from, and what.
 /// - A refused event gets a line that says why.
 /// - A line at the end names the live transactions.

@@ -1,0 +1,105 @@
+//! The lines that say why a commit waits, and on which uncommitted values a code may rest.
+ghost use Rattle.std.specs.Prelude.{◌≡◌, ◌<◌, take, length, IsSome, OnErr, vec_len};
+
+use crate::edge::pair_edge;
+use crate::indexed_history::IndexedHistory;
+use crate::source::read_from;
+use crate::text::{append_unsettled, append_wait};
+use sgt_model::{Cause, NoMemory, Reply, Tid};
+use std::alloc::AllocError;
+
+/// Appends the lines that explain the entry at this position by transactions that are live after it:
+///
+/// - if its commit waits, a line for each live transaction that comes before its own, with the accesses that make the
+///   edge between them;
+/// - if a procedure aborted with a code at its step, a line for each live transaction of which it had read a value. If
+///   one of them aborts, the serial run may have another code, or none.
+///
+/// For any other entry it appends nothing. The list of lines is as for `append_explanation`.
+///
+/// `NoMemory` if an allocation failed; then the text is unchanged.
+pub fn append_live_causes(
+    text: &mut Vec<u8>,
+    history: &IndexedHistory,
+    place: usize,
+    live: &[Tid],
+    lines: &[u64],
+) -> Result<(), NoMemory>
+    ensures kept { take (vec_len text.old) text.new.items ≡ text.old.items }
+    ensures err { OnErr result (text.new.items ≡ text.old.items) }
+{
+    let mut words = Vec::new(*text.allocator());
+    if let Some(waiting) = waiting_at(history, place) {
+        append_waits(&mut words, history, place, waiting, live, lines)?;
+    }
+    if let Some(reader) = coded_at(history, place) {
+        append_reads(&mut words, history, place, reader, live, lines)?;
+    }
+    text.extend_from_slice(words.as_slice())?;
+    Ok(())
+}
+
+// Appends a line for each of these that comes before the transaction whose commit waits.
+fn append_waits(
+    text: &mut Vec<u8>,
+    history: &IndexedHistory,
+    place: usize,
+    waiting: Tid,
+    live: &[Tid],
+    lines: &[u64],
+) -> Result<(), AllocError>
+    requires { place < length history.now }
+{
+    for t in live {
+        if *t != waiting {
+            if let Some(edge) = pair_edge(history, place, *t, waiting) {
+                append_wait(text, &edge, place, lines)?;
+            }
+        }
+    }
+    Ok(())
+}
+
+// Appends a line for each of these of which the transaction read a value.
+fn append_reads(
+    text: &mut Vec<u8>,
+    history: &IndexedHistory,
+    place: usize,
+    reader: Tid,
+    live: &[Tid],
+    lines: &[u64],
+) -> Result<(), AllocError>
+    requires { place < length history.now }
+{
+    for t in live {
+        if let Some(read) = read_from(history, place, reader, *t) {
+            append_unsettled(text, &read, place, lines)?;
+        }
+    }
+    Ok(())
+}
+
+// The transaction whose commit waits at a position, if one does.
+fn waiting_at(history: &IndexedHistory, place: usize) -> Option<Tid>
+    ensures { IsSome result → place < length history.now }
+{
+    let entry = history.get_entry(place)?;
+    if entry.is_wait() { entry.named() } else { None }
+}
+
+// The transaction that its procedure aborts with a code at its step, at a position, if one does.
+fn coded_at(history: &IndexedHistory, place: usize) -> Option<Tid>
+    ensures { IsSome result → place < length history.now }
+{
+    let entry = history.get_entry(place)?;
+    if !entry.is_ending() || entry.is_commit() {
+        return None;
+    }
+    match entry.reply() {
+        Reply::Aborted {
+            cause: Cause::Asked(_),
+            ..
+        } => entry.named(),
+        _ => None,
+    }
+}
