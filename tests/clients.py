@@ -9,14 +9,15 @@ the witness is tested by what was observed. So are the levels of isolation, by t
 counts the cases.
 """
 
-import glob
 import itertools
 import json
 import os
 import random
 import re
+import shutil
 import subprocess
 import sys
+import tempfile
 import xml.etree.ElementTree as ElementTree
 from concurrent.futures import ThreadPoolExecutor
 
@@ -26,6 +27,7 @@ from helpers.appends import (  # noqa: E402
     COMMITTED, Transaction, all_small, drawn, entries_of, keeps_time, lines_of, precedences, serial_orders, shortest_cycle)
 from helpers.cases import SECONDS, TESTS, Differs, same, run_cases  # noqa: E402
 from helpers.levels import drawn_split, is_committed_run, is_ordered_isolated, is_read_committed, is_read_uncommitted, is_snapshot_isolated, is_snapshot_run, is_write_order, keeps, may_have_no_write_order, may_stay_open  # noqa: E402
+from helpers.machines import Postgres  # noqa: E402
 from pictures import Drawing  # noqa: E402
 
 CLIENTS = TESTS.parent / "examples" / "clients"
@@ -572,6 +574,19 @@ def shows_values_of_a_long_read(program):
     return f"{len(steps)} steps"
 
 
+def shows_where_two_long_reads_part(program):
+    """Of two reads of 40 values the last 16, and before them the two at which they differ first."""
+    values = list(range(1, 41))
+    for place in range(39):
+        other = [*values[:place], values[place + 1], values[place], *values[place + 2:]]
+        history = [*(one("ok", (A, 1, it)) for it in values), one("ok", (R, 1, tuple(values))), one("ok", (R, 1, tuple(other)))]
+        line = check(program, in_turn(history))[1].splitlines()[2]
+        shown = re.fullmatch(r"  t42 \(line 84\) read key 1 as \[(.*)\], but t41 \(line 82\) read key 1 as \[(.*)\]", line).groups()
+        for listed, seen in zip(shown, (other, values)):
+            early = [it for it in seen[:24] if it in values[place:place + 2]]
+            same(f"values that part at {place}", ".." + "".join(f" {it} .." for it in early) + "".join(f" {it}" for it in seen[24:]), listed)
+
+
 def reads_each_form(program):
     """One object a line, one array, objects over several lines, with and without white space: one report."""
     history = NAMED["G2-item"]
@@ -759,10 +774,74 @@ def spoil_operations(draw, value):
 
 
 def keeps_time_only_with_invocations(program):
+    """Real time needs the invocation of each transaction: an end without one is an error, whatever end it is."""
     reported = "no invocations: without them it is unknown when transactions began, which --strict needs\n"
     same("ends alone", (2, "", reported), check(program, GOOD, "--strict"))
     began = '{"type":"invoke","process":"c","f":"txn","value":[["r",1,null]]}\n'
-    same("with an invocation", 0, check(program, GOOD + began, "--strict")[0])
+    lacks = "no invocation: without it it is unknown when the transaction began, which --strict needs\n"
+    for end in ("ok", "fail", "info"):
+        alone = GOOD.replace("ok", end)
+        same(f"{end} before", (2, "", f"line 1, entry 1: {lacks}"), check(program, alone + began, "--strict"))
+        same(f"{end} after", (2, "", f"line 2, entry 2: {lacks}"), check(program, began + alone, "--level", "strict-serializable"))
+        same(f"{end} in EDN", (2, "", f"line 1, entry 1: {lacks}"), check(program, EDN.replace("ok", end) + edn(json.loads(began)), "--strict"))
+        same(f"{end} without time", 0, check(program, began + alone)[0])
+        same(f"{end} with its invocation", 0, check(program, GOOD.replace("ok", "invoke") + alone + began, "--strict")[0])
+
+
+def says_that_an_end_ends_nothing(program):
+    """An end of a process without an open invocation appends again what the invocation of another one appends, or an end before it."""
+    began, other = GOOD.replace("ok", "invoke"), GOOD.replace('"process":0', '"process":"other"')
+    reported = "line {} appends 1 to key 1 a second time, after line {}: it ends no invocation of its process\n"
+    same("another process", (2, "", reported.format(2, 1)), check(program, began + other))
+    same("one more end", (2, "", reported.format(3, 2)), check(program, began + GOOD + GOOD))
+    for end in ("fail", "info"):
+        same(f"one more {end}", (2, "", reported.format(3, 2)), check(program, began + GOOD + GOOD.replace("ok", end)))
+    twice = f"line 3 appends 1 to key 1 a second time, after line 2\n{APPENDED_ONCE}\n"
+    same("two invocations", (2, "", twice), check(program, began + GOOD + began))
+
+
+def answers_without_time_if_asked(program):
+    """With --strict the status of --level serializable is that of serializable alone: the report has both."""
+    stale = in_turn([one("ok", (A, 1, 1)), one("ok", (R, 1, (1,))), one("ok", (R, 1, ()))])
+    for level, wanted in (((), 1), (("--level", "strict-serializable"), 1), (("--level", "serializable"), 0), (("--level", "snapshot-isolation"), 0)):
+        status, text, _ = check(program, stale, "--strict", *level)
+        same(f"status of {level}", (wanted, "strictly serializable no: G-single-realtime", True),
+             (status, text.splitlines()[1], "strongest level: serializable" in text.splitlines()))
+    skew = in_turn(SKEW)
+    for level in LEVELS[3:]:
+        same(f"status of {level}", 1, check(program, skew, "--strict", "--level", level)[0])
+
+
+def keeps_time_in_little_memory(program):
+    """The most memory of a check with --strict is at most one and a half times that of one without."""
+    with tempfile.TemporaryFile("w+") as file:
+        for number in range(80_000):
+            key, count = divmod(number, 8)
+            for kind, seen in (("invoke", None), ("ok", list(range(count)))):
+                value = [["r", key, seen], ["append", key, count], ["append", -1 - number, 1]]
+                file.write(lines_of([{"type": kind, "process": number % 16, "f": "txn", "value": value}]))
+        file.flush()
+        plain, strict = (most_memory(program, file, options) for options in ((), ("--strict",)))
+    same(f"at most one and a half times {plain} KiB", True, strict <= 1.5 * plain)
+    return f"{plain // 1024} MiB, {strict // 1024} MiB with --strict"
+
+
+# Runs a program, and writes its status and the most memory that it had, in KiB. A process counts what the one had that started it.
+MEASURED = """
+import os, sys
+_, status, used = os.wait4(os.posix_spawn(sys.argv[1], sys.argv[1:], os.environ), 0)
+print(os.waitstatus_to_exitcode(status), used.ru_maxrss, file=sys.stderr)
+"""
+
+
+def most_memory(program, file, options):
+    """The most memory of a check of the file, in KiB."""
+    file.seek(0)
+    words = [sys.executable, "-c", MEASURED, program, "check", "--model", "list-append", *options]
+    ran = subprocess.run(words, stdin=file, stdout=subprocess.DEVNULL, stderr=subprocess.PIPE, timeout=SECONDS, check=False)
+    status, most = ran.stderr.split()
+    same("status", b"0", status)
+    return int(most)
 
 
 BEGUN = '{"type":"invoke","process":1,"value":[]}\n'
@@ -807,6 +886,8 @@ FAULTS = {
     '{"type":"ok","process":0,"value":[["r",1,None]]}': "line 1, entry 1: no JSON from column 42 on\nJSON has null, true and false, in small letters",
     " r1[x]": "line 1, entry 1: no JSON from column 2 on" + IS_TEXT,
     "x": "line 1, entry 1: no JSON from column 1 on" + IS_TEXT,
+    "[r1[x]": "line 1, entry 1: no JSON from column 2 on\na word stands in double quotes in JSON, but for null, true and false",
+    "{r1[x]": "line 1, entry 1: no JSON from column 2 on\na word stands in double quotes in JSON, but for null, true and false",
     "r1[x] w1[x]": "line 1, entry 1: no JSON from column 1 on" + IS_TEXT,
     "{:type :ok": "line 1, entry 1: no JSON from column 11 on\n" + cut_input(1, 1),
     EDN + "{:type :ok, :process 0, :f :txn, :value [[:append 1 2]]": "line 2, entry 2: no JSON from column 56 on\n" + cut_input(2, 2),
@@ -950,6 +1031,19 @@ def ends_on_long_ones(program):
     same("a read", (1, "serializable no: incompatible-order", "strongest level: none"), (status, text.splitlines()[1], text.splitlines()[3]))
 
 
+def late_appends(drawing):
+    """The appends that are drawn after a read of another transaction that saw them."""
+    titles = [it.title for it in sorted(drawing.marks, key=lambda it: it.place)]
+    appends = {(key, value): (place, by) for place, title in enumerate(titles) for by, key, value in re.findall(r"w(\d+)\[(\S+): \+(-?\d+)\]", title)}
+    late = []
+    for place, title in enumerate(titles):
+        for reader, key, seen in re.findall(r"r(\d+)\[(\S+): \[(.*?)\]\]", title):
+            for value in seen.split():
+                append, by = appends.get((key, value), (0, reader))
+                late += [(title, titles[append])] * (by != reader and append > place)
+    return late
+
+
 def draws_its_witness(program):
     entries, _ = entries_of(random.Random(1), NAMED["G2-item"])
     status, text, errors = check(program, lines_of(entries), "--timeline")
@@ -965,6 +1059,13 @@ def draws_its_witness(program):
             raise Differs(f"{name}: the picture does not say what its order is")
         ends = [it.label in ("c", "a") for it in drawing.marks]
         same(f"{name}: ends come last", sorted(ends), ends)
+        same(f"{name}: appends stand before their reads", [], late_appends(drawing))
+    draw = random.Random(75)
+    for _ in range(200):
+        entries, _ = entries_of(draw, drawn(draw))
+        given = lines_of(entries)
+        drawing = Drawing(check(program, given, "--timeline")[1])
+        same(f"appends stand before their reads\n{given}", [], late_appends(drawing))
     entries, _ = entries_of(random.Random(1), NAMED["G0"])
     steps = [STEP.fullmatch(it).groups()[2] for it in check(program, lines_of(entries))[1].splitlines() if STEP.fullmatch(it)]
     cited = {re.match(r"t(\d+)(?: \(.*?\))? read key (\S+) as \[(.*?)\]", it).groups() for it in steps}
@@ -989,15 +1090,19 @@ def recorded_ones(program):
 
 
 # The databases of Debian's packages: their recorders, and a program of the server.
-DATABASES = {"postgres.py": "/usr/lib/postgresql/*/bin/initdb", "mariadb.py": "/usr/sbin/mariadbd"}
+def missing_of(name):
+    """What of a database is missing here, if anything is."""
+    if name == "postgres.py":
+        return Postgres.missing_server() or (None if shutil.which("psql") else "there is no psql on this machine")
+    return None if os.path.exists("/usr/sbin/mariadbd") else "there is no mariadbd on this machine"
 
 
 def records_databases(program):
     """What is recorded anew of each database that is here, at its level SERIALIZABLE, is serializable."""
     reported = []
-    for name, server in DATABASES.items():
-        if not glob.glob(server):
-            reported.append(f"{name} left out, {server} is missing")
+    for name in ("postgres.py", "mariadb.py"):
+        if why := missing_of(name):
+            reported.append(f"{name} left out, {why}")
             continue
         words = [CLIENTS / name, "--temporary", "--level", "serializable", "--transactions", "60"]
         ran = subprocess.run(words, capture_output=True, timeout=10 * SECONDS, check=False)
@@ -1010,10 +1115,10 @@ def records_databases(program):
 
 CASES = [on_all_small_histories, on_drawn_histories, on_drawn_histories_strictly, levels_of_all_small_histories, levels_of_drawn_histories,
          names_the_strongest_level, names_the_read_that_decides, keeps_the_order_of_begins, shortens_a_long_order, draws_the_level, names_anomalies, names_the_operations,
-         shows_values_of_a_long_read, ends_on_long_ones, reads_each_form, reads_edn, notices_a_wrong_bracket_in_edn,
+         shows_values_of_a_long_read, shows_where_two_long_reads_part, ends_on_long_ones, reads_each_form, reads_edn, notices_a_wrong_bracket_in_edn,
          takes_null_for_the_empty_list, takes_processes_of_any_name, takes_keys_of_any_name,
          takes_values_with_a_sign, skips_what_is_no_transaction, refuses_nothing,
-         refuses_an_end_of_other_operations, keeps_time_only_with_invocations, reports_faults, names_the_line_that_is_cut, survives_hostile_bytes, needs_its_model, hints_at_its_model, draws_its_witness, recorded_ones,
+         refuses_an_end_of_other_operations, keeps_time_only_with_invocations, keeps_time_in_little_memory, says_that_an_end_ends_nothing, answers_without_time_if_asked, reports_faults, names_the_line_that_is_cut, survives_hostile_bytes, needs_its_model, hints_at_its_model, draws_its_witness, recorded_ones,
          records_databases]
 
 if __name__ == "__main__":

@@ -16,6 +16,7 @@
 //!
 //! Not proved:
 //! - the names of the anomalies
+//! - what `propose` finds, which is to be tested
 //! - the time
 //!
 //! ```
@@ -38,6 +39,7 @@ mod lines;
 mod merge;
 mod order;
 mod premises;
+mod proposal;
 mod reads;
 mod search;
 mod short;
@@ -59,8 +61,9 @@ pub use laws::{
 };
 pub use order::{is_serial_run, names_each};
 pub use premises::unknown_read;
+pub use proposal::{Before, Proposal, propose};
 pub use reads::{Read, first_fault, read_of};
 pub use shown::{is_shown, is_shown_cycle};
-pub use sorting::{Link, Sorted, sort};
+pub use sorting::{Link, Sorted, sort, sort_within};
 pub use transaction::{Operation, Status, Transaction};
 pub use witness::{Edge, Reason, all_hold, append_at, has, is_cycle, read_at, stands_before};

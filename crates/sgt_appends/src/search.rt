@@ -21,11 +21,13 @@ const WORK: usize = 1_000_000;
 /// How many links fewer are looked at after a cycle that was longer than it seemed.
 const LOST_WORK: usize = 10_000;
 
-/// A cycle of fewer edges than the known one, or nothing. It is to be tested.
+/// A cycle of fewer edges than the known one, or nothing. It is to be tested. `ends` is the first node that is the end of
+/// a line.
 pub(crate) fn short_cycle(
     alloc: Global,
     history: &[Transaction],
     links: &[Link],
+    ends: usize,
     nodes: usize,
     known: &[Edge],
 ) -> Result<Vec<Edge>, NoMemory> {
@@ -35,7 +37,7 @@ pub(crate) fn short_cycle(
     if known.len() <= 2 {
         return Ok(Vec::new(alloc));
     }
-    let mut search = Search::new(alloc, history, links, nodes, edge.from)?;
+    let mut search = Search::new(alloc, history, links, ends, nodes, edge.from)?;
     for limit in 2..known.len() {
         if let Some(cycle) = search.cycle_of(alloc, history, links, limit)? {
             return Ok(cycle);
@@ -47,7 +49,7 @@ pub(crate) fn short_cycle(
 /// The edges of the links at these places, the last first.
 fn edges_along(
     alloc: Global,
-    transactions: usize,
+    ends: usize,
     links: &[Link],
     path: &[usize],
 ) -> Result<Vec<Edge>, NoMemory> {
@@ -55,7 +57,7 @@ fn edges_along(
     let mut before = None;
     for place in path.iter().rev() {
         if let Some(link) = links.get(*place) {
-            before = add_edge(&mut edges, transactions, before, *link)?;
+            before = add_edge(&mut edges, ends, before, *link)?;
         }
     }
     Ok(edges)
@@ -64,12 +66,14 @@ fn edges_along(
 /// What a search knows.
 #[derive(Drop)]
 struct Search {
+    /// The first node that is the end of a line.
+    ends: usize,
     chains: Chains,
     /// For each link the key that it is about.
     keys: Vec<Option<u32>>,
     /// The nodes of the component have 2.
     component: Vec<usize>,
-    /// The links of the component from transactions.
+    /// The links of the component that begin at no end of a line.
     starts: Vec<usize>,
     /// For each link the turn at which it was reached last.
     turns: Vec<usize>,
@@ -91,6 +95,7 @@ impl Search {
         alloc: Global,
         history: &[Transaction],
         links: &[Link],
+        ends: usize,
         nodes: usize,
         node: usize,
     ) -> Result<Self, NoMemory> {
@@ -99,9 +104,10 @@ impl Search {
         let mut component = chains.reached(alloc, links, node)?;
         add_marks(&mut component, back.reached(alloc, links, node)?.as_slice());
         Ok(Search {
+            ends,
             chains,
             keys: keys_of(alloc, history, links)?,
-            starts: starts_in(alloc, links, history.len(), component.as_slice())?,
+            starts: starts_in(alloc, links, ends, component.as_slice())?,
             component,
             turns: filled(alloc, links.len(), 0)?,
             before: filled(alloc, links.len(), 0)?,
@@ -146,7 +152,7 @@ impl Search {
         last: usize,
     ) -> Result<Vec<Edge>, NoMemory> {
         let path = self.path_to(alloc, links.len(), start, last)?;
-        let edges = edges_along(alloc, history.len(), links, path.as_slice())?;
+        let edges = edges_along(alloc, self.ends, links, path.as_slice())?;
         merged(alloc, history, edges.as_slice())
     }
 
@@ -293,7 +299,7 @@ impl Search {
         place: usize,
         next: usize,
     ) -> bool {
-        if other.from >= history.len() {
+        if other.from >= self.ends {
             return true;
         }
         let key = self.key_at(place);
@@ -339,19 +345,16 @@ impl Search {
     }
 }
 
-/// The places of the links from transactions whose nodes are marked with 2.
+/// The places of the links from nodes before the ends of lines, of which both nodes are marked with 2.
 fn starts_in(
     alloc: Global,
     links: &[Link],
-    transactions: usize,
+    ends: usize,
     marks: &[usize],
 ) -> Result<Vec<usize>, NoMemory> {
     let mut starts = Vec::new(alloc);
     for (place, link) in links.iter().enumerate() {
-        if link.from < transactions
-            && number_at(marks, link.from) == 2
-            && number_at(marks, link.to) == 2
-        {
+        if link.from < ends && number_at(marks, link.from) == 2 && number_at(marks, link.to) == 2 {
             starts.push(place)?;
         }
     }

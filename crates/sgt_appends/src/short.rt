@@ -28,7 +28,14 @@ pub(crate) fn shorten(
 {
     let known = merged(alloc, history, cycle.as_slice())?;
     let known = shorter_of(history, cycle, known);
-    let found = short_cycle(alloc, history, links, nodes, known.as_slice())?;
+    let found = short_cycle(
+        alloc,
+        history,
+        links,
+        history.len(),
+        nodes,
+        known.as_slice(),
+    )?;
     Ok(shorter_of(history, known, found))
 }
 

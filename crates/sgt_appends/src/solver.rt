@@ -47,7 +47,7 @@ pub fn solve(
 }
 
 /// The transactions among the nodes, without the aborted ones.
-fn not_aborted(
+pub(crate) fn not_aborted(
     alloc: Global,
     history: &[Transaction],
     nodes: &[usize],

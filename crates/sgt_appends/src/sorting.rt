@@ -252,3 +252,27 @@ pub fn sort(
         None => Ok(Ok(Sorted { ranks, order })),
     }
 }
+
+/// The sorted nodes, or a cycle; nothing if a link leads from or to a node that is not below the number.
+pub fn sort_within(
+    alloc: Global,
+    links: &[Link],
+    nodes: usize,
+) -> Result<Option<Result<Sorted, Vec<Link>>>, NoMemory> {
+    if !are_within(links, nodes) {
+        return Ok(None);
+    }
+    Ok(Some(sort(alloc, links, nodes)?))
+}
+
+/// Whether the nodes of the links are below the number.
+fn are_within(links: &[Link], nodes: usize) -> bool
+    ensures { IsTrue result → AreWithin links.now nodes }
+{
+    for link in links {
+        if link.from >= nodes || link.to >= nodes {
+            return false;
+        }
+    }
+    true
+}

@@ -3,6 +3,7 @@ pub mod Cuts
 pub mod Faulty
 pub mod Inputs
 pub mod Leveled
+pub mod Parting
 pub mod ReadTo
 pub mod RealTime
 pub mod Scans

@@ -98,6 +98,22 @@ of_one value = record { one = value; other = None }
 abbrev pub of_two : Option ℕ → Option ℕ → Spoken
 of_two value next = record { one = value; other = next }
 
+-- the values at the first position at which two lists differ, if there is one
+abbrev pub parting : List ℕ → List ℕ → Spoken
+parting [] ws = of_one None
+parting (v ∷ vs) [] = of_one None
+parting (v ∷ vs) (w ∷ ws) = if v == w then parting vs ws else of_two (Some v) (Some w)
+
+-- what a read saw
+abbrev pub values_of : Option Operation → List ℕ
+values_of (Some (Read k values)) = values.items
+values_of (Some (Append k value)) = []
+values_of None = []
+
+-- the values at the first position at which the read p of transaction t and the read q of transaction u differ, if there is one
+abbrev pub parting_at : Clients → ℕ → ℕ → ℕ → ℕ → Spoken
+parting_at c t p u q = parting (values_of (operation_at c t p)) (values_of (operation_at c u q))
+
 -- the words on the value of an append
 abbrev pub with_value : (ℕ → List ℕ) → Option Operation → List ℕ
 with_value words (Some (Append k value)) = words value
@@ -150,28 +166,28 @@ abbrev pub aborted_text : Clients → ℕ → ℕ → List ℕ
 aborted_text c t v = codes ", with " ++ value_text v ++ codes " of " ++ placed c t ++ codes ", which aborted"
 
 -- what is wrong with a read
-abbrev pub wrong_text : Clients → ℕ → Fault → List ℕ
-wrong_text c reader (fault.Unwritten value) = codes ", but no transaction that may have committed appends " ++ value_text value
-wrong_text c reader (fault.Aborted by append) = with_value (aborted_text c by) (operation_at c by append)
-wrong_text c reader (fault.Twice value) = codes ", with a value twice: " ++ value_text value
-wrong_text c reader fault.EndsOtherwise = codes ", which does not end with what " ++ transaction_text reader ++ codes " had appended"
-wrong_text c reader (fault.Ahead append) = with_value (ahead_text reader) (operation_at c reader append)
-wrong_text c reader (fault.Swapped by first second) = with_values (swapped_text c by) (operation_at c by first) (operation_at c by second)
-wrong_text c reader (fault.Incompatible other read) = codes ", but " ++ (placed c other ++ read_text c (of_one None) (operation_at c other read))
+abbrev pub wrong_text : Clients → ℕ → ℕ → Fault → List ℕ
+wrong_text c reader position (fault.Unwritten value) = codes ", but no transaction that may have committed appends " ++ value_text value
+wrong_text c reader position (fault.Aborted by append) = with_value (aborted_text c by) (operation_at c by append)
+wrong_text c reader position (fault.Twice value) = codes ", with a value twice: " ++ value_text value
+wrong_text c reader position fault.EndsOtherwise = codes ", which does not end with what " ++ transaction_text reader ++ codes " had appended"
+wrong_text c reader position (fault.Ahead append) = with_value (ahead_text reader) (operation_at c reader append)
+wrong_text c reader position (fault.Swapped by first second) = with_values (swapped_text c by) (operation_at c by first) (operation_at c by second)
+wrong_text c reader position (fault.Incompatible other read) = codes ", but " ++ (placed c other ++ read_text c (parting_at c reader position other read) (operation_at c other read))
 
 -- the values that a fault speaks of
-abbrev pub spoken_of : Clients → ℕ → Fault → Spoken
-spoken_of c reader (fault.Unwritten value) = of_one (Some value)
-spoken_of c reader (fault.Aborted by append) = of_one (value_of (operation_at c by append))
-spoken_of c reader (fault.Twice value) = of_one (Some value)
-spoken_of c reader fault.EndsOtherwise = of_one None
-spoken_of c reader (fault.Ahead append) = of_one (value_of (operation_at c reader append))
-spoken_of c reader (fault.Swapped by first second) = of_two (value_of (operation_at c by first)) (value_of (operation_at c by second))
-spoken_of c reader (fault.Incompatible other read) = of_one None
+abbrev pub spoken_of : Clients → ℕ → ℕ → Fault → Spoken
+spoken_of c reader position (fault.Unwritten value) = of_one (Some value)
+spoken_of c reader position (fault.Aborted by append) = of_one (value_of (operation_at c by append))
+spoken_of c reader position (fault.Twice value) = of_one (Some value)
+spoken_of c reader position fault.EndsOtherwise = of_one None
+spoken_of c reader position (fault.Ahead append) = of_one (value_of (operation_at c reader append))
+spoken_of c reader position (fault.Swapped by first second) = of_two (value_of (operation_at c by first)) (value_of (operation_at c by second))
+spoken_of c reader position (fault.Incompatible other read) = parting_at c reader position other read
 
 -- a read, and what is wrong with it
 abbrev pub fault_text : Clients → ℕ → ℕ → Fault → List ℕ
-fault_text c reader read fault = placed c reader ++ read_text c (spoken_of c reader fault) (operation_at c reader read) ++ wrong_text c reader fault
+fault_text c reader read fault = placed c reader ++ read_text c (spoken_of c reader read fault) (operation_at c reader read) ++ wrong_text c reader read fault
 
 -- whether the status is this one
 abbrev pub is_status : Status → Status → Bool

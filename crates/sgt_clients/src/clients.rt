@@ -41,6 +41,15 @@ pub enum Event {
     Ended(usize),
 }
 
+/// A transaction that began at its end, since its process had no open invocation.
+#[derive(Clone, Copy, Debug, PartialEq, Eq)]
+pub struct Alone {
+    /// The transaction.
+    pub transaction: usize,
+    /// The line of its entry.
+    pub line: u64,
+}
+
 /// What clients saw.
 #[derive(Drop)]
 pub struct Clients {
@@ -54,6 +63,8 @@ pub struct Clients {
     pub events: Vec<Event>,
     /// Whether an entry is an invocation.
     pub invoked: bool,
+    /// The transactions without an invocation. No contract speaks of them.
+    pub alone: Vec<Alone>,
     /// How many entries were skipped, since they are of no transaction.
     pub skipped: usize,
     /// The texts of the keys, by number.
@@ -84,6 +95,7 @@ pub fn read_clients(alloc: Global, text: &[u8]) -> Result<Clients, ClientsFault>
         processes: reader.owners,
         events: reader.events,
         invoked: reader.invoked,
+        alone: reader.alone,
         skipped: reader.skipped,
         by_line: reader.by_line,
         keys: reader.keys.texts,
@@ -113,6 +125,8 @@ struct ClientsReader {
     active: BTreeMap<u32, Invocation>,
     /// Whether there was an invocation.
     invoked: bool,
+    /// The transactions without one.
+    alone: Vec<Alone>,
     /// The line on which each transaction began.
     lines: Vec<u64>,
     /// The line on which the last entry started.
@@ -142,6 +156,7 @@ impl ClientsReader {
             processes: Items::new(alloc),
             active: BTreeMap::new(alloc),
             invoked: false,
+            alone: Vec::new(alloc),
             lines: Vec::new(alloc),
             line: 1,
             entries: 0,
@@ -349,8 +364,21 @@ impl ClientsReader {
     {
         let number = self.transactions.len();
         self.note_owner(entry.process)?;
+        self.note_alone(number)?;
         self.add(status, entry.operations)?;
         self.note_end(number, status)
+    }
+
+    /// Notes that the transaction, which is the next one, begins at its end.
+    fn note_alone(&mut self, transaction: usize) -> Result<(), NoMemory>
+        ensures same { IsSame self.old self.new }
+        ensures stored { OnOk result ((p : Past) → Stores self.old p → Stores self.new p) }
+    {
+        self.alone.push(Alone {
+            transaction,
+            line: self.line,
+        })?;
+        Ok(())
     }
 
     /// Notes that the transaction ends here, unless its end is unknown.

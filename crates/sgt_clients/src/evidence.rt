@@ -2,7 +2,7 @@
 
 ghost use Rattle.std.specs.Prelude.{◌≡◌, ◌==◌, option_map, false};
 ghost use Rattle.std.specs.Option.{option_map_or};
-ghost use Rattle.sgt_clients.specs.ReportText.{operation_at, value_of, of_one, of_two, is_spoken};
+ghost use Rattle.sgt_clients.specs.ReportText.{operation_at, value_of, of_one, of_two, is_spoken, parting, values_of};
 ghost use Rattle.sgt_clients.specs.Evidence.{put_of, seen_of};
 
 use crate::clients::Clients;
@@ -68,6 +68,21 @@ fn is_value(one: Option<u64>, value: u64) -> bool
     }
 }
 
+/// The values at the first position at which the lists differ, if there is one.
+pub(crate) fn parting(values: &[u64], other: &[u64]) -> Spoken
+    ensures { result ≡ parting values.now other.now }
+{
+    for at in 0..values.len() {
+        if at >= other.len() {
+            return Spoken::of_one(None);
+        }
+        if values[at] != other[at] {
+            return Spoken::of_two(Some(values[at]), Some(other[at]));
+        }
+    }
+    Spoken::of_one(None)
+}
+
 /// The operation at the position of the transaction.
 pub(crate) fn operation_at(
     clients: &Clients,
@@ -112,5 +127,15 @@ pub(crate) fn seen_at(clients: &Clients, transaction: usize, place: usize) -> Op
             values: values.as_slice(),
         }),
         Operation::Append { .. } => None,
+    }
+}
+
+/// What the read at the position of the transaction saw, or nothing if there is none.
+pub(crate) fn values_at(clients: &Clients, transaction: usize, place: usize) -> &[u64]
+    ensures { result.now ≡ values_of (operation_at clients.now transaction place) }
+{
+    match operation_at(clients, transaction, place) {
+        Some(Operation::Read { values, .. }) => values.as_slice(),
+        Some(Operation::Append { .. }) | None => &[],
     }
 }

@@ -263,9 +263,14 @@ fn bytes_hint(before: &[u8], after: &[u8], is_first: bool) -> Option<Hint> {
         Some(byte) if *byte >= 128 => Some(Hint::Foreign),
         Some(b'_') if before.ends_with(b"#") => Some(Hint::Discard),
         Some(b'{' | b'}' | b'#' | b':' | b'"') => None,
-        Some(_) if is_first => Some(Hint::History),
+        Some(_) if is_first && is_outside(before) => Some(Hint::History),
         _ => None,
     }
+}
+
+/// Whether no bracket stands before: text that begins with one is not read as a history either.
+fn is_outside(before: &[u8]) -> bool {
+    !matches!(before.trim_ascii_start().first(), Some(b'[' | b'{'))
 }
 
 /// The hint of the entry with this flaw.

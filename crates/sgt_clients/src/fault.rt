@@ -36,6 +36,8 @@ pub enum Flaw {
     /// The invocation is on this line, and has this number among the entries.
     #[error("the operations are not those of the invocation, line {0}, entry {1}")]
     OtherOperations(u64, usize),
+    #[error("no invocation: without it it is unknown when the transaction began, which --strict needs")]
+    NoInvocation,
     #[error("more than 16777216 keys")]
     TooManyKeys,
     #[error("more than 16777216 processes")]
@@ -88,6 +90,9 @@ pub enum ClientsFault {
     /// The transaction that ended or began here appends the value to the key, after the one that ended or began there.
     #[error("{0} appends {1} to key {2} a second time, after {3}")]
     Twice(Position, i64, Shown, Position),
+    /// The same, and the second one is an end of a process without an open invocation.
+    #[error("{0} appends {1} to key {2} a second time, after {3}: it ends no invocation of its process")]
+    Unasked(Position, i64, Shown, Position),
     /// There is no transaction to judge.
     #[error("no operations")]
     NoOperations,

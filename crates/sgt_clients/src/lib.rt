@@ -62,7 +62,7 @@ mod unseen_text;
 mod witness_text;
 
 pub use anomalies::{Example, Seen};
-pub use clients::{Clients, Event, Span, read_clients};
+pub use clients::{Alone, Clients, Event, Span, read_clients};
 pub use fault::{ClientsFault, Flaw, Position};
 pub use finding::{Finding, Step, Why, check_clients};
 pub use graph_text::append_graph;

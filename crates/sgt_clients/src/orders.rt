@@ -2,12 +2,12 @@
 //!
 //! That a run is one of snapshots is proved. That it keeps the order, and that a cycle leaves none, is tested.
 
+use crate::barriers::{Pairs, has_committed, pairs_in_time, pairs_of_processes, process_of};
 use crate::clients::{Clients, Event, Span};
 use crate::finding::{Finding, is_serial};
 use crate::level_findings::Weaker;
 use crate::names::breaks_strong;
-use sgt_appends::Status;
-use sgt_levels::{Ordered, Orders, Passage, Snapshot, Snapshots, ordered_run};
+use sgt_levels::{Ordered, Passage, Snapshot, Snapshots, ordered_run};
 use sgt_model::NoMemory;
 use std::alloc::Global;
 use std::collections::BTreeMap;
@@ -92,11 +92,7 @@ fn has_no_snapshots(weaker: &Option<Weaker>) -> bool {
 /// Whether there is a snapshot run that keeps the order.
 fn answer_for(alloc: Global, clients: &Clients, kind: Kind) -> Result<Kept, NoMemory> {
     let pairs = pairs_of(alloc, clients, kind)?;
-    let orders = Orders {
-        before: pairs.before.as_slice(),
-        barriers: pairs.barriers,
-    };
-    match ordered_run(alloc, clients.transactions.as_slice(), orders)? {
+    match ordered_run(alloc, clients.transactions.as_slice(), pairs.all())? {
         Ordered::Run(run) => {
             if keeps(alloc, clients, &run, kind)? {
                 return Ok(Kept::Run(run));
@@ -132,109 +128,11 @@ fn merged(alloc: Global, passages: &[Passage]) -> Result<Vec<Passage>, NoMemory>
     Ok(merged)
 }
 
-/// Transactions and barriers of which the first of a pair comes before the second.
-#[derive(Drop)]
-struct Pairs {
-    before: Vec<(usize, usize)>,
-    barriers: usize,
-}
-
 /// The pairs of the order.
 fn pairs_of(alloc: Global, clients: &Clients, kind: Kind) -> Result<Pairs, NoMemory> {
     match kind {
         Kind::RealTime => pairs_in_time(alloc, clients),
         Kind::Process => pairs_of_processes(alloc, clients),
-    }
-}
-
-/// The pairs of real time. Where transactions begin after others have ended, a barrier stands between them.
-fn pairs_in_time(alloc: Global, clients: &Clients) -> Result<Pairs, NoMemory> {
-    let mut pairs = Pairs {
-        before: Vec::new(alloc),
-        barriers: 0,
-    };
-    let mut ended = Vec::new(alloc);
-    for event in &clients.events {
-        match *event {
-            Event::Ended(number) => if has_committed(clients, number) {
-                ended.push(number)?;
-            },
-            Event::Began(number) => {
-                add_barrier(&mut pairs, clients, &mut ended)?;
-                if let Some(last) = last_barrier(&pairs, clients) {
-                    pairs.before.push((last, number))?;
-                }
-            }
-        }
-    }
-    Ok(pairs)
-}
-
-/// The number of the last barrier, if there is one.
-fn last_barrier(pairs: &Pairs, clients: &Clients) -> Option<usize> {
-    let barrier = pairs.barriers.checked_sub(1)?;
-    clients.transactions.len().checked_add(barrier)
-}
-
-/// Adds a barrier after those that have ended, and after the last barrier.
-fn add_barrier(
-    pairs: &mut Pairs,
-    clients: &Clients,
-    ended: &mut Vec<usize>,
-) -> Result<(), NoMemory> {
-    if ended.is_empty() {
-        return Ok(());
-    }
-    let last = last_barrier(pairs, clients);
-    pairs.barriers = pairs.barriers.saturating_add(1);
-    let Some(barrier) = last_barrier(pairs, clients) else {
-        return Ok(());
-    };
-    if let Some(last) = last {
-        pairs.before.push((last, barrier))?;
-    }
-    for number in ended.as_slice() {
-        pairs.before.push((*number, barrier))?;
-    }
-    ended.clear();
-    Ok(())
-}
-
-/// The pairs of each process: the last transaction of it that committed comes before the next one.
-fn pairs_of_processes(alloc: Global, clients: &Clients) -> Result<Pairs, NoMemory> {
-    let mut before = Vec::new(alloc);
-    let mut last = BTreeMap::new(alloc);
-    for event in &clients.events {
-        match *event {
-            Event::Ended(number) => if has_committed(clients, number) {
-                last.insert(process_of(clients, number), number)?;
-            },
-            Event::Began(number) => {
-                if let Some(earlier) = last.get(&process_of(clients, number)).copied() {
-                    before.push((earlier, number))?;
-                }
-            }
-        }
-    }
-    Ok(Pairs {
-        before,
-        barriers: 0,
-    })
-}
-
-/// The process of the transaction.
-fn process_of(clients: &Clients, number: usize) -> u32 {
-    match clients.processes.get(number) {
-        Some(process) => *process,
-        None => 0,
-    }
-}
-
-/// Whether the transaction committed.
-fn has_committed(clients: &Clients, number: usize) -> bool {
-    match clients.transactions.get(number) {
-        Some(transaction) => transaction.status == Status::Committed,
-        None => false,
     }
 }
 

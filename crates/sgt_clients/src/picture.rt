@@ -53,7 +53,7 @@ pub fn append_timeline(
     let subject = add_level(alloc, &mut scene, clients, found, level)?;
     if subject != Subject::Order {
         scene.add_ends(alloc, clients)?;
-        scene.sort(alloc)?;
+        scene.sort(alloc, clients)?;
     }
     let history = history_of(alloc, clients, scene.strokes.as_slice())?;
     let edges = edges_of(alloc, &scene)?;

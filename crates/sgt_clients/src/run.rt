@@ -13,7 +13,7 @@ ghost use Rattle.sgt_clients.specs.GraphText.{graph_text};
 
 use crate::clients::{Clients, read_clients};
 use crate::explained::explained;
-use crate::fault::ClientsFault;
+use crate::fault::{ClientsFault, Flaw};
 use crate::finding::Finding;
 use crate::graph_text::append_graph;
 use crate::json_text::append_json;
@@ -46,8 +46,8 @@ pub enum ClientsOutput {
 /// # Errors
 ///
 /// - `Entry` with the first entry that is wrong, `NoOperations` or `OnlySkipped` if there is no transaction, `NoInvocations` if
-///   real time is to be kept and no entry is an invocation, `Twice` if a value is appended twice to a key, `Check` if the input has more than 268,435,456 bytes, a read failed or an allocation.
-///   Nothing is written then.
+///   real time is to be kept and no entry is an invocation, `Twice` or `Unasked` if a value is appended twice to a key, `Check`
+///   if the input has more than 268,435,456 bytes, a read failed or an allocation. Nothing is written then.
 /// - `Check` if a write failed. A prefix of the output is written then.
 pub fn run_clients<S: Source, T: Sink>(
     alloc: Global,
@@ -136,11 +136,26 @@ fn check_json(
     if strict && !clients.invoked {
         return Err(ClientsFault::NoInvocations);
     }
+    if let Some(fault) = unasked(&clients, strict) {
+        return Err(fault);
+    }
     let found = find(alloc, &clients, strict)?;
     Ok(Checked {
         text: text_of(alloc, &clients, &found, output, strict, question.level)?,
         answer: found.answer(question.level),
     })
+}
+
+/// The error of the first transaction without an invocation, if real time is to be kept.
+fn unasked(clients: &Clients, strict: bool) -> Option<ClientsFault>
+    ensures { IfSome result IsOwn }
+{
+    if !strict {
+        return None;
+    }
+    let alone = clients.alone.first()?;
+    let span = clients.spans.get(alone.transaction)?;
+    Some(ClientsFault::Entry(alone.line, span.began, Flaw::NoInvocation))
 }
 
 /// The error of an input without a transaction, of which so many entries were skipped.
@@ -176,6 +191,9 @@ fn own(error: ClientsFault) -> ClientsFault
         }
         ClientsFault::Twice(second, value, key, first) => {
             ClientsFault::Twice(second, value, key, first)
+        }
+        ClientsFault::Unasked(second, value, key, first) => {
+            ClientsFault::Unasked(second, value, key, first)
         }
         ClientsFault::NoOperations => ClientsFault::NoOperations,
         ClientsFault::OnlySkipped(count) => ClientsFault::OnlySkipped(count),

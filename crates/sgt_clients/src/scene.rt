@@ -1,9 +1,11 @@
 //! The operations that a picture draws, and which pairs of them stand out.
 
 use crate::clients::Clients;
+use crate::evidence::{put_at, seen_at};
 use sgt_appends::Status;
 use sgt_model::NoMemory;
 use std::alloc::Global;
+use std::collections::BTreeMap;
 
 /// An operation that is drawn: its transaction, and its position there. The end of a transaction comes after all positions.
 #[derive(Clone, Copy, Debug, PartialEq, Eq)]
@@ -88,13 +90,29 @@ impl Scene {
         }
     }
 
-    /// Puts the operations in order: the earlier one of each pair first, and those of a transaction as they came, if that
-    /// can be. An end comes after all other operations, unless a pair begins there.
-    pub fn sort(&mut self, alloc: Global) -> Result<(), NoMemory> {
+    /// The appends and the reads that are drawn of which the read saw the append of another transaction.
+    fn seen_pairs(&self, alloc: Global, clients: &Clients) -> Result<Vec<Pair>, NoMemory> {
+        let mut appends = BTreeMap::new(alloc);
+        for stroke in &self.strokes {
+            if let Some(put) = put_at(clients, stroke.transaction, stroke.position) {
+                appends.insert((put.key, put.value), *stroke)?;
+            }
+        }
+        let mut pairs = Vec::new(alloc);
+        for stroke in &self.strokes {
+            add_seen(&mut pairs, clients, &appends, *stroke)?;
+        }
+        Ok(pairs)
+    }
+
+    /// Puts the operations in order: an append before those that saw it, the earlier one of each pair first, and those of
+    /// a transaction as they came, if that can be. An end comes after all other operations, unless a pair begins there.
+    pub fn sort(&mut self, alloc: Global, clients: &Clients) -> Result<(), NoMemory> {
+        let seen = self.seen_pairs(alloc, clients)?;
         let mut left = copy_of(alloc, self.strokes.as_slice())?;
         let mut sorted = Vec::with_capacity(alloc, left.len())?;
         for _ in 0..self.strokes.len() {
-            let next = first_free(left.as_slice(), self.pairs.as_slice());
+            let next = first_free(left.as_slice(), self.pairs.as_slice(), seen.as_slice());
             if next < left.len() {
                 sorted.push(left.remove(next))?;
             }
@@ -119,20 +137,54 @@ pub(crate) fn place_of(strokes: &[Stroke], stroke: Stroke) -> Option<usize> {
     None
 }
 
-/// The position of the first operation that none of the others has to come before, or else of the first that does not
-/// wait, or else of the first.
-fn first_free(left: &[Stroke], pairs: &[Pair]) -> usize {
+/// Adds the pairs of the read and the appends of others that it saw.
+fn add_seen(
+    pairs: &mut Vec<Pair>,
+    clients: &Clients,
+    appends: &BTreeMap<(u32, u64), Stroke>,
+    read: Stroke,
+) -> Result<(), NoMemory> {
+    let Some(seen) = seen_at(clients, read.transaction, read.position) else {
+        return Ok(());
+    };
+    for value in seen.values {
+        match appends.get(&(seen.key, *value)).copied() {
+            Some(earlier) if earlier.transaction != read.transaction => {
+                pairs.push(Pair {
+                    earlier,
+                    later: read,
+                })?;
+            }
+            _ => (),
+        }
+    }
+    Ok(())
+}
+
+/// The position of the first operation that none of the others has to come before. A cycle may leave none: then of the
+/// first whose appends stand, or else of the first that does not wait, or else of the first.
+fn first_free(left: &[Stroke], pairs: &[Pair], seen: &[Pair]) -> usize {
     let mut first = left.len();
+    let mut first_seen = left.len();
     for (place, stroke) in left.iter().enumerate() {
         if waits(pairs, *stroke) {
             continue;
         }
-        if is_free(left, pairs, *stroke) {
-            return place;
-        }
         first = first.min(place);
+        if is_free(left, seen, *stroke) {
+            if is_free(left, pairs, *stroke) {
+                return place;
+            }
+            first_seen = first_seen.min(place);
+        }
     }
-    if first < left.len() { first } else { 0 }
+    if first_seen < left.len() {
+        first_seen
+    } else if first < left.len() {
+        first
+    } else {
+        0
+    }
 }
 
 /// Whether it is an end that waits until all other operations stand: no pair begins there.

@@ -1,6 +1,6 @@
 //! The check that keeps real time: who ended before another began has to come first.
 //!
-//! What is found of the history with its barriers is tested on what clients saw, and on when they saw it.
+//! What the search between barriers finds is tested on what clients saw, and on when they saw it.
 ghost use Rattle.std.specs.Prelude.{◌≡◌, ◌≢◌, ◌<◌, ◌≤◌, ℕ, List, true, false, IsTrue, IfOk, IfSome, Some};
 ghost use Rattle.sgt_appends.specs.declared.transaction.Transaction.{Transaction};
 ghost use Rattle.sgt_appends.specs.declared.transaction.Status.TheVariants.{Committed};
@@ -10,14 +10,14 @@ ghost use Rattle.sgt_clients.specs.declared.clients.Span.{Span};
 ghost use Rattle.sgt_clients.specs.Findings.{EndedBefore, KeepsTime, HasOrder, Shows, IsFound};
 ghost use Rattle.sgt_clients.specs.Times.{ComesAfter};
 
-use crate::barriers::with_barriers;
+use crate::barriers::pairs_in_time;
 use crate::clients::{Clients, Span};
 use crate::fault::ClientsFault;
 use crate::finding::{Finding, Step, Why, check_clients};
 use crate::names::strict_cycle_name;
 use sgt_appends::{
-    Edge, Status, Transaction, Verdict, Witness, all_hold, appends_once, check_appends,
-    is_serial_run, name_of,
+    Edge, Proposal, Status, Transaction, Witness, all_hold, appends_once, is_serial_run, name_of,
+    propose,
 };
 use sgt_model::NoMemory;
 use std::alloc::Global;
@@ -30,10 +30,9 @@ use std::alloc::Global;
 pub fn check_strictly(alloc: Global, clients: &Clients) -> Result<Finding, ClientsFault>
     ensures { IfOk result (IsFound true clients.now.transactions.items clients.now.spans.items) }
 {
-    let history = with_barriers(alloc, clients)?;
-    match check_appends(alloc, history.as_slice())? {
-        Verdict::Serial(order) => serial_finding(alloc, clients, order.as_slice()),
-        Verdict::Violated(Witness::Cycle(edges)) if has_barrier(clients, edges.as_slice()) => {
+    match proposal_of(alloc, clients)? {
+        Proposal::Order(order) => serial_finding(alloc, clients, order),
+        Proposal::Cycle(edges) if has_barrier(clients, edges.as_slice()) => {
             cycle_finding(
                 alloc,
                 clients.transactions.as_slice(),
@@ -43,6 +42,12 @@ pub fn check_strictly(alloc: Global, clients: &Clients) -> Result<Finding, Clien
         }
         _ => violated(check_clients(alloc, clients)?),
     }
+}
+
+/// A serial order that keeps real time, or a cycle that leaves none. It is to be tested.
+fn proposal_of(alloc: Global, clients: &Clients) -> Result<Proposal, NoMemory> {
+    let pairs = pairs_in_time(alloc, clients)?;
+    propose(alloc, clients.transactions.as_slice(), pairs.all())
 }
 
 /// The finding, unless it is an order.
@@ -66,33 +71,21 @@ fn has_barrier(clients: &Clients, edges: &[Edge]) -> bool {
     false
 }
 
-/// The finding of a serial order, without its barriers.
+/// The finding of a serial order.
 fn serial_finding(
     alloc: Global,
     clients: &Clients,
-    order: &[usize],
+    order: Vec<usize>,
 ) -> Result<Finding, ClientsFault>
     ensures { IfOk result (IsFound true clients.now.transactions.items clients.now.spans.items) }
 {
-    let own = below(alloc, order, clients.transactions.len())?;
-    if keeps_time(clients.spans.as_slice(), own.as_slice())
-        && is_serial_run(alloc, clients.transactions.as_slice(), own.as_slice())?
+    if keeps_time(clients.spans.as_slice(), order.as_slice())
+        && is_serial_run(alloc, clients.transactions.as_slice(), order.as_slice())?
     {
-        Ok(Finding::Serial(own))
+        Ok(Finding::Serial(order))
     } else {
         Err(ClientsFault::Undecided)
     }
-}
-
-/// The numbers below the bound.
-fn below(alloc: Global, order: &[usize], bound: usize) -> Result<Vec<usize>, NoMemory> {
-    let mut own = Vec::new(alloc);
-    for number in order {
-        if *number < bound {
-            own.push(*number)?;
-        }
-    }
-    Ok(own)
 }
 
 /// Whether each transaction of the order ends after all that stand before it, and itself, began.

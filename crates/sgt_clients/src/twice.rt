@@ -23,15 +23,40 @@ pub(crate) fn twice_fault(alloc: Global, clients: &Clients) -> Result<ClientsFau
     let mut met = BTreeMap::new(alloc);
     for (number, transaction) in clients.transactions.iter().enumerate() {
         if let Some(again) = first_met(&mut met, number, transaction.operations.as_slice())? {
-            return Ok(ClientsFault::Twice(
-                position_of(clients, number),
-                again.value.cast_signed(),
-                shown_name(alloc, clients.keys.as_slice(), again.key)?,
-                position_of(clients, again.first),
-            ));
+            return again_fault(alloc, clients, number, again);
         }
     }
     Ok(ClientsFault::Undecided)
+}
+
+/// The fault of the transaction, which appends a value again.
+fn again_fault(
+    alloc: Global,
+    clients: &Clients,
+    number: usize,
+    again: Again,
+) -> Result<ClientsFault, NoMemory> {
+    let second = position_of(clients, number);
+    let value = again.value.cast_signed();
+    let key = shown_name(alloc, clients.keys.as_slice(), again.key)?;
+    let first = position_of(clients, again.first);
+    if again.first != number && is_unasked(clients, number) {
+        return Ok(ClientsFault::Unasked(second, value, key, first));
+    }
+    Ok(ClientsFault::Twice(second, value, key, first))
+}
+
+/// Whether others have an invocation, and the transaction has none.
+fn is_unasked(clients: &Clients, number: usize) -> bool {
+    if !clients.invoked {
+        return false;
+    }
+    for alone in &clients.alone {
+        if alone.transaction == number {
+            return true;
+        }
+    }
+    false
 }
 
 /// The first append of these operations of the transaction that is met again. The others are met now.

@@ -3,10 +3,10 @@
 ghost use Rattle.std.specs.Prelude.{◌≡◌, ◌++◌, codes, OnOk};
 ghost use Rattle.sgt_clients.specs.Values.{value_text};
 ghost use Rattle.sgt_appends.specs.declared.witness.Reason.TheVariants.{Seen, Missed};
-ghost use Rattle.sgt_clients.specs.ReportText.{transaction_text, placed, key_text, values_text, operation_at, read_text, with_value, with_values, in_order_text, reason_text, ahead_text, aborted_text, swapped_text, wrong_text, spoken_of, fault_text};
+ghost use Rattle.sgt_clients.specs.ReportText.{transaction_text, placed, key_text, values_text, operation_at, read_text, with_value, with_values, in_order_text, reason_text, ahead_text, aborted_text, swapped_text, wrong_text, parting_at, spoken_of, fault_text};
 
 use crate::clients::Clients;
-use crate::evidence::{Spoken, put_at, seen_at, value_at};
+use crate::evidence::{Spoken, parting, put_at, seen_at, value_at, values_at};
 use crate::finding::Step;
 use crate::piece::{Piece, append_pieces};
 use sgt_appends::{Fault, Reason};
@@ -208,14 +208,14 @@ pub(crate) fn append_fault(
         clients,
         reader,
         read,
-        spoken_of(clients, reader, fault),
+        spoken_of(clients, reader, read, fault),
     )?;
-    append_wrong(text, clients, reader, fault)
+    append_wrong(text, clients, reader, read, fault)
 }
 
 /// The values that the fault of a read of the reader speaks of.
-fn spoken_of(clients: &Clients, reader: usize, fault: &Fault) -> Spoken
-    ensures { result ≡ spoken_of clients.now reader fault.now }
+fn spoken_of(clients: &Clients, reader: usize, position: usize, fault: &Fault) -> Spoken
+    ensures { result ≡ spoken_of clients.now reader position fault.now }
 {
     match fault {
         Fault::Unwritten(value) | Fault::Twice(value) => Spoken::of_one(Some(*value)),
@@ -225,8 +225,27 @@ fn spoken_of(clients: &Clients, reader: usize, fault: &Fault) -> Spoken
             value_at(clients, *by, *first),
             value_at(clients, *by, *second),
         ),
-        Fault::EndsOtherwise | Fault::Incompatible { .. } => Spoken::of_one(None),
+        Fault::EndsOtherwise => Spoken::of_one(None),
+        Fault::Incompatible { other, read } => {
+            parting_at(clients, reader, position, *other, *read)
+        }
     }
+}
+
+/// The values at the first position at which the two reads differ, if there is one.
+fn parting_at(
+    clients: &Clients,
+    reader: usize,
+    position: usize,
+    other: usize,
+    read: usize,
+) -> Spoken
+    ensures { result ≡ parting_at clients.now reader position other read }
+{
+    parting(
+        values_at(clients, reader, position),
+        values_at(clients, other, read),
+    )
 }
 
 /// Appends what is wrong with a read of the reader.
@@ -234,9 +253,10 @@ fn append_wrong(
     text: &mut Vec<u8>,
     clients: &Clients,
     reader: usize,
+    position: usize,
     fault: &Fault,
 ) -> Result<(), NoMemory>
-    ensures { OnOk result (text.new.items ≡ text.old.items ++ wrong_text clients.now reader fault.now) }
+    ensures { OnOk result (text.new.items ≡ text.old.items ++ wrong_text clients.now reader position fault.now) }
 {
     match fault {
         Fault::Unwritten(value) => append_value(
@@ -262,7 +282,8 @@ fn append_wrong(
         }
         Fault::Incompatible { other, read } => {
             text.extend_from_slice(b", but ")?;
-            append_placed_read(text, clients, *other, *read, Spoken::of_one(None))
+            let spoken = parting_at(clients, reader, position, *other, *read);
+            append_placed_read(text, clients, *other, *read, spoken)
         }
     }
 }

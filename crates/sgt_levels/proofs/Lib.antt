@@ -14,6 +14,5 @@ pub mod Grown
 pub mod Replayed
 pub mod Tied
 pub mod WriteOrders
-pub mod Nodes
 pub mod Answered
 pub mod Scanned

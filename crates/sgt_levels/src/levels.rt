@@ -8,12 +8,14 @@ ghost use Rattle.sgt_levels.specs.Commits.{IsCommittedRun, IsReadCommitted};
 ghost use Rattle.sgt_levels.specs.Answers.{AreRight, IsWritesRight, IsCommittedRight, IsSnapshotRight};
 
 use crate::replay::{is_committed_run, is_snapshot_run};
-use crate::search::{Found, Orders, Snapshots, search_commits, search_snapshots, ties_in};
+use crate::search::{Found, Snapshots, search_commits, search_snapshots, ties_in};
 use crate::survey::{Partial, Survey};
 use crate::tie::{Tie, rules_out_committed, rules_out_partial, rules_out_snapshot};
 use crate::write_search::{WriteSearch, search_writes};
 use crate::writes::{is_write_order, rules_out_uncommitted};
-use sgt_appends::{AppendIndex, Fault, Transaction, first_fault, first_incompatible, unknown_read};
+use sgt_appends::{
+    AppendIndex, Before, Fault, Transaction, first_fault, first_incompatible, unknown_read,
+};
 use sgt_model::NoMemory;
 use std::alloc::Global;
 
@@ -273,11 +275,11 @@ fn snapshot_of(
     if survey.partial.is_some() {
         return Ok(Snapshot::Open);
     }
-    let orders = Orders {
-        before: &[],
+    let before = Before {
+        pairs: &[],
         barriers: 0,
     };
-    match search_snapshots(alloc, history, survey, orders)? {
+    match search_snapshots(alloc, history, survey, before)? {
         Found::Run(run) => {
             if is_snapshot_run(alloc, history, run.order.as_slice(), run.starts.as_slice())? {
                 return Ok(Snapshot::Run(run));

@@ -46,7 +46,7 @@ pub use levels::{Committed, Levels, Snapshot, Writes, levels_of};
 pub use ordered::{Ordered, ordered_run};
 pub use replay::{is_committed_run, is_snapshot_run};
 pub use ruling::{Level, ruled_out};
-pub use search::{Orders, Snapshots};
+pub use search::Snapshots;
 pub use survey::Partial;
 pub use tie::{Ground, Passage, Tie, rules_out_committed, rules_out_partial, rules_out_snapshot};
 pub use unseen::{Unseen, unseen_appends};

@@ -5,10 +5,10 @@ ghost use Rattle.std.specs.Prelude.{IfOk};
 ghost use Rattle.sgt_levels.specs.Answers.{IsOrderedRight};
 
 use crate::replay::is_snapshot_run;
-use crate::search::{Found, Orders, Snapshots, search_snapshots};
+use crate::search::{Found, Snapshots, search_snapshots};
 use crate::survey::Survey;
 use crate::tie::{Passage, is_round};
-use sgt_appends::{AppendIndex, Transaction};
+use sgt_appends::{AppendIndex, Before, Transaction};
 use sgt_model::NoMemory;
 use std::alloc::Global;
 
@@ -27,7 +27,7 @@ pub enum Ordered {
 pub fn ordered_run(
     alloc: Global,
     history: &[Transaction],
-    orders: Orders<'_>,
+    before: Before<'_>,
 ) -> Result<Ordered, NoMemory>
     ensures { IfOk result (IsOrderedRight history.now) }
 {
@@ -35,7 +35,7 @@ pub fn ordered_run(
         return Ok(Ordered::Open);
     };
     let survey = Survey::of_history(alloc, history, &appends)?;
-    match search_snapshots(alloc, history, &survey, orders)? {
+    match search_snapshots(alloc, history, &survey, before)? {
         Found::Run(run) => {
             if is_snapshot_run(alloc, history, run.order.as_slice(), run.starts.as_slice())? {
                 return Ok(Ordered::Run(run));

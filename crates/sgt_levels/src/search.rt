@@ -1,10 +1,8 @@
 //! The search for a run of a level, or for ties that leave none. What it finds is tested by `replay.rt` and `tie.rt`.
-ghost use Rattle.std.specs.Prelude.{IsTrue};
-ghost use Rattle.sgt_appends.specs.Graphs.{AreWithin};
 
 use crate::survey::{Survey, Visit, length_of};
 use crate::tie::{Ground, Passage, Tie};
-use sgt_appends::{Link, Reason, Sorted, Transaction, sort};
+use sgt_appends::{Before, Link, Reason, Transaction, sort_within};
 use sgt_model::NoMemory;
 use std::alloc::Global;
 use std::collections::BTreeMap;
@@ -27,30 +25,6 @@ pub enum Found {
     Nothing,
 }
 
-/// The sorted nodes, or a cycle of links; nothing if a node is out of range.
-pub(crate) fn sorted_nodes(
-    alloc: Global,
-    links: &[Link],
-    nodes: usize,
-) -> Result<Option<Result<Sorted, Vec<Link>>>, NoMemory> {
-    if !are_within(links, nodes) {
-        return Ok(None);
-    }
-    Ok(Some(sort(alloc, links, nodes)?))
-}
-
-/// Whether the nodes of the links are below the number.
-fn are_within(links: &[Link], nodes: usize) -> bool
-    ensures { IsTrue result → AreWithin links.now nodes }
-{
-    for link in links {
-        if link.from >= nodes || link.to >= nodes {
-            return false;
-        }
-    }
-    true
-}
-
 /// An order of commits for a run of committed reads, or ties that leave none.
 pub fn search_commits(
     alloc: Global,
@@ -70,7 +44,7 @@ pub fn search_commits(
             Ground::Wait { .. } | Ground::Missed { .. } => (),
         }
     }
-    match sorted_nodes(alloc, links.as_slice(), history.len())? {
+    match sort_within(alloc, links.as_slice(), history.len())? {
         Some(Ok(sorted)) => Ok(Some(Ok(taking_part(alloc, survey, sorted.order.as_slice())?))),
         Some(Err(cycle)) => Ok(Some(Err(ties_of(alloc, survey, cycle.as_slice())?))),
         None => Ok(None),
@@ -86,7 +60,7 @@ fn tied(number: usize) -> Reason {
 }
 
 /// The reason of a link by which a transaction comes before another.
-fn before() -> Reason {
+fn ordered() -> Reason {
     Reason::Seen { append: 0, read: 1 }
 }
 
@@ -185,7 +159,7 @@ struct Nodes {
 }
 
 /// The nodes, unless there are too many.
-fn nodes_of(history: &[Transaction], survey: &Survey, orders: Orders<'_>) -> Option<Nodes> {
+fn nodes_of(history: &[Transaction], survey: &Survey, before: Before<'_>) -> Option<Nodes> {
     let transactions = history.len();
     let ends = transactions.checked_mul(2)?;
     let barriers = ends.checked_add(survey.count)?;
@@ -193,18 +167,8 @@ fn nodes_of(history: &[Transaction], survey: &Survey, orders: Orders<'_>) -> Opt
         transactions,
         ends,
         barriers,
-        count: barriers.checked_add(orders.barriers)?,
+        count: barriers.checked_add(before.barriers)?,
     })
-}
-
-/// Which transactions come before others. A number after those of the transactions is that of a barrier, which comes
-/// after some and before others.
-#[derive(Clone, Copy)]
-pub struct Orders<'a> {
-    /// The first of each pair comes before the second.
-    pub before: &'a [(usize, usize)],
-    /// How many barriers there are.
-    pub barriers: usize,
 }
 
 /// The node at which the transaction or barrier is left.
@@ -243,21 +207,21 @@ pub fn search_snapshots(
     alloc: Global,
     history: &[Transaction],
     survey: &Survey,
-    orders: Orders<'_>,
+    before: Before<'_>,
 ) -> Result<Found, NoMemory> {
-    let Some(nodes) = nodes_of(history, survey, orders) else {
+    let Some(nodes) = nodes_of(history, survey, before) else {
         return Ok(Found::Nothing);
     };
     let mut links = links_of(alloc, survey, nodes)?;
-    for (from, to) in orders.before {
+    for (from, to) in before.pairs {
         add(
             &mut links,
             leaving(nodes, *from),
             entering(nodes, *to),
-            before(),
+            ordered(),
         )?;
     }
-    let sorted = match sorted_nodes(alloc, links.as_slice(), nodes.count)? {
+    let sorted = match sort_within(alloc, links.as_slice(), nodes.count)? {
         Some(Ok(sorted)) => sorted,
         Some(Err(cycle)) => {
             let turned = turned(alloc, cycle.as_slice(), nodes)?;
@@ -274,7 +238,7 @@ pub fn search_snapshots(
         nodes,
         sorted.order.as_slice(),
     )?;
-    match sorted_nodes(alloc, links.as_slice(), nodes.count)? {
+    match sort_within(alloc, links.as_slice(), nodes.count)? {
         Some(Ok(sorted)) => Ok(Found::Run(snapshots_of(
             alloc,
             survey,

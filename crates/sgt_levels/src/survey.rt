@@ -10,6 +10,9 @@ use sgt_model::NoMemory;
 use std::alloc::Global;
 use std::collections::BTreeMap;
 
+/// An append: its transaction, and its position there.
+type Spot = (usize, usize);
+
 /// The longest list of a key that a committed transaction saw.
 #[derive(Clone, Copy)]
 pub struct Line {
@@ -20,6 +23,8 @@ pub struct Line {
     pub read: usize,
     /// How many values it has.
     pub len: usize,
+    /// The place of the append of its first value.
+    first: usize,
 }
 
 /// A position in a transaction, at the end of a line: a read that saw the whole line, or an append that is not in it.
@@ -43,9 +48,13 @@ pub struct Partial {
 /// What ties the transactions together.
 #[derive(Drop)]
 pub struct Survey {
-    lines: BTreeMap<u32, Line>,
+    /// The number of the line of each key.
+    numbers: BTreeMap<u32, usize>,
+    lines: Vec<Line>,
     /// How many lines there are.
     pub count: usize,
+    /// The appends of the values of the lines, one line after another. Each read of a key saw a prefix of its line.
+    spots: Vec<Option<Spot>>,
     /// For each operation, one transaction after another, whether it appends a value that is in a line.
     seen: Vec<bool>,
     /// For each transaction the place of its first operation there.
@@ -75,8 +84,10 @@ impl Survey {
         appends: &AppendIndex,
     ) -> Result<Self, NoMemory> {
         let mut survey = Survey {
-            lines: BTreeMap::new(alloc),
+            numbers: BTreeMap::new(alloc),
+            lines: Vec::new(alloc),
             count: 0,
+            spots: Vec::new(alloc),
             seen: Vec::new(alloc),
             firsts: Vec::new(alloc),
             runs: Vec::new(alloc),
@@ -91,8 +102,8 @@ impl Survey {
         survey.find_lines(history)?;
         survey.mark_all(history, appends)?;
         survey.find_unseen(history)?;
-        survey.tie_reads(history, appends)?;
-        survey.tie_unseen(history, appends)?;
+        survey.tie_reads(history)?;
+        survey.tie_unseen(history)?;
         Ok(survey)
     }
 
@@ -110,32 +121,32 @@ impl Survey {
 
     /// Makes the read the line of its key, if it saw more.
     fn offer(&mut self, read: Read<'_>) -> Result<(), NoMemory> {
-        let number = match self.lines.get(&read.key).copied() {
-            Some(line) => {
-                if read.seen.len() <= line.len {
-                    return Ok(());
-                }
-                line.number
-            }
-            None => {
-                let number = self.count;
-                let Some(count) = number.checked_add(1) else {
-                    return Err(NoMemory);
-                };
-                self.count = count;
-                number
-            }
+        let known = self.numbers.get(&read.key).copied();
+        let line = Line {
+            number: known.unwrap_or(self.count),
+            reader: read.reader,
+            read: read.position,
+            len: read.seen.len(),
+            first: 0,
         };
-        self.lines.insert(
-            read.key,
-            Line {
-                number,
-                reader: read.reader,
-                read: read.position,
-                len: read.seen.len(),
-            },
-        )?;
+        if let Some(number) = known {
+            if let Some(before) = self.lines.get_mut(number) {
+                if before.len < line.len {
+                    *before = line;
+                }
+            }
+            return Ok(());
+        }
+        self.numbers.insert(read.key, line.number)?;
+        self.lines.push(line)?;
+        self.count = self.lines.len();
         Ok(())
+    }
+
+    /// The line of the key.
+    fn line_of(&self, key: u32) -> Option<Line> {
+        let number = self.numbers.get(&key).copied()?;
+        self.lines.get(number).copied()
     }
 
     /// Marks the transactions that take part, and the values of the lines.
@@ -147,22 +158,10 @@ impl Survey {
                 self.seen.push(false)?;
             }
         }
-        for number in 0..history.len() {
-            for position in 0..length_of(history, number) {
-                if let Some(read) = read_of(history, number, position) {
-                    self.mark(appends, read);
-                }
-            }
+        for number in 0..self.lines.len() {
+            self.mark_line(history, appends, number)?;
         }
         Ok(())
-    }
-
-    /// Whether the read is the line of its key.
-    fn is_line(&self, read: Read<'_>) -> bool {
-        match self.lines.get(&read.key) {
-            Some(line) => line.reader == read.reader && line.read == read.position,
-            None => false,
-        }
     }
 
     /// Marks the append and its transaction.
@@ -193,16 +192,36 @@ impl Survey {
         }
     }
 
-    /// Marks the values of the line and their appenders, if the read is one.
-    fn mark(&mut self, appends: &AppendIndex, read: Read<'_>) {
-        if !self.is_line(read) {
-            return;
-        }
+    /// Marks the values of the line of this number and their appenders, and notes where they are appended.
+    fn mark_line(
+        &mut self,
+        history: &[Transaction],
+        appends: &AppendIndex,
+        number: usize,
+    ) -> Result<(), NoMemory> {
+        let first = self.spots.len();
+        let Some(line) = self.lines.get_mut(number) else {
+            return Ok(());
+        };
+        line.first = first;
+        let Some(read) = read_of(history, line.reader, line.read) else {
+            return Ok(());
+        };
         for value in read.seen {
-            if let Some((by, append)) = appends.find(read.key, *value) {
+            let spot = appends.find(read.key, *value);
+            self.spots.push(spot)?;
+            if let Some((by, append)) = spot {
                 self.mark_append(by, append);
             }
         }
+        Ok(())
+    }
+
+    /// The appends of the values of the line between these indices.
+    fn spots_of(&self, line: Line, from: usize, to: usize) -> &[Option<Spot>] {
+        let from = line.first.saturating_add(from);
+        let to = line.first.saturating_add(to);
+        self.spots.as_slice().get(from..to).unwrap_or(&[])
     }
 
     /// Whether the transaction takes part.
@@ -249,15 +268,11 @@ impl Survey {
     }
 
     /// Adds the ties of all reads.
-    fn tie_reads(
-        &mut self,
-        history: &[Transaction],
-        appends: &AppendIndex,
-    ) -> Result<(), NoMemory> {
+    fn tie_reads(&mut self, history: &[Transaction]) -> Result<(), NoMemory> {
         for number in 0..history.len() {
             for position in 0..length_of(history, number) {
                 if let Some(read) = read_of(history, number, position) {
-                    self.tie_read(history, appends, read)?;
+                    self.tie_read(read)?;
                 }
             }
         }
@@ -265,19 +280,15 @@ impl Survey {
     }
 
     /// Adds the ties of the read.
-    fn tie_read(
-        &mut self,
-        history: &[Transaction],
-        appends: &AppendIndex,
-        read: Read<'_>,
-    ) -> Result<(), NoMemory> {
-        let Some(line) = self.lines.get(&read.key).copied() else {
+    fn tie_read(&mut self, read: Read<'_>) -> Result<(), NoMemory> {
+        let Some(line) = self.line_of(read.key) else {
             return Ok(());
         };
-        if self.is_line(read) {
-            self.tie_values(appends, read)?;
+        if line.reader == read.reader && line.read == read.position {
+            self.tie_values(line)?;
         }
-        let last = last_other(appends, read);
+        let seen = read.seen.len();
+        let last = last_other(self.spots_of(line, 0, seen), read.reader);
         if let Some((from, append)) = last {
             let ground = Ground::Seen {
                 append,
@@ -285,7 +296,7 @@ impl Survey {
             };
             self.tie(from, read.reader, ground)?;
         }
-        match next_other(history, appends, line, read) {
+        match next_other(self.spots_of(line, seen, line.len), read.reader) {
             Some((to, append)) => {
                 let ground = Ground::Missed {
                     read: read.position,
@@ -295,7 +306,7 @@ impl Survey {
                 self.note_partial(read, last, to, append);
                 Ok(())
             }
-            None => self.enter(appends, line, read),
+            None => self.enter(line, read),
         }
     }
 
@@ -328,18 +339,18 @@ impl Survey {
         Ok(())
     }
 
-    /// Adds the ties between the appenders of the values that the read saw.
-    fn tie_values(&mut self, appends: &AppendIndex, read: Read<'_>) -> Result<(), NoMemory> {
+    /// Adds the ties between the appenders of the values of the line.
+    fn tie_values(&mut self, line: Line) -> Result<(), NoMemory> {
         let mut before = None;
-        for value in read.seen {
-            let next = appends.find(read.key, *value);
+        for index in 0..line.len {
+            let next = self.spot_at(line, index);
             if let Some((from, first)) = before {
                 if let Some((to, second)) = next {
                     let ground = Ground::InOrder {
                         first,
                         second,
-                        reader: read.reader,
-                        read: read.position,
+                        reader: line.reader,
+                        read: line.read,
                     };
                     self.tie(from, to, ground)?;
                 }
@@ -349,8 +360,16 @@ impl Survey {
         Ok(())
     }
 
+    /// The append of the value of the line at the index.
+    fn spot_at(&self, line: Line, index: usize) -> Option<Spot> {
+        match self.spots.get(line.first.saturating_add(index)) {
+            Some(spot) => *spot,
+            None => None,
+        }
+    }
+
     /// Notes that the read saw the whole line.
-    fn enter(&mut self, appends: &AppendIndex, line: Line, read: Read<'_>) -> Result<(), NoMemory> {
+    fn enter(&mut self, line: Line, read: Read<'_>) -> Result<(), NoMemory> {
         self.enters.push(Visit {
             line: line.number,
             transaction: read.reader,
@@ -358,7 +377,7 @@ impl Survey {
         })?;
         if self.whole.get(&read.key).is_none()
             && read.seen.len() == line.len
-            && !ends_with_own(appends, read)
+            && !self.ends_with_own(line, read)
         {
             self.whole.insert(read.key, (read.reader, read.position))?;
         }
@@ -370,16 +389,25 @@ impl Survey {
         Ok(())
     }
 
+    /// Whether the last value of the line is the reader's own.
+    fn ends_with_own(&self, line: Line, read: Read<'_>) -> bool {
+        match self.last_of(line) {
+            Some((by, _)) => by == read.reader,
+            None => false,
+        }
+    }
+
+    /// The append of the line's last value.
+    fn last_of(&self, line: Line) -> Option<Spot> {
+        self.spot_at(line, line.len.checked_sub(1)?)
+    }
+
     /// Adds the ties of all appends that are in no line.
-    fn tie_unseen(
-        &mut self,
-        history: &[Transaction],
-        appends: &AppendIndex,
-    ) -> Result<(), NoMemory> {
+    fn tie_unseen(&mut self, history: &[Transaction]) -> Result<(), NoMemory> {
         for number in 0..history.len() {
             for position in 0..length_of(history, number) {
                 if let Some(key) = self.unseen_at(history, number, position) {
-                    self.tie_append(history, appends, key, number, position)?;
+                    self.tie_append(key, number, position)?;
                 }
             }
         }
@@ -387,15 +415,8 @@ impl Survey {
     }
 
     /// Adds the ties of the append, whose value is not in the line of the key.
-    fn tie_append(
-        &mut self,
-        history: &[Transaction],
-        appends: &AppendIndex,
-        key: u32,
-        number: usize,
-        position: usize,
-    ) -> Result<(), NoMemory> {
-        let Some(line) = self.lines.get(&key).copied() else {
+    fn tie_append(&mut self, key: u32, number: usize, position: usize) -> Result<(), NoMemory> {
+        let Some(line) = self.line_of(key) else {
             return Ok(());
         };
         self.leaves.push(Visit {
@@ -403,7 +424,7 @@ impl Survey {
             transaction: number,
             position,
         })?;
-        if let Some((from, first)) = last_of(history, appends, line) {
+        if let Some((from, first)) = self.last_of(line) {
             let ground = Ground::Late {
                 first,
                 second: position,
@@ -460,11 +481,11 @@ pub fn length_of(history: &[Transaction], number: usize) -> usize
     }
 }
 
-/// The append of the last value that the read saw and that is not the reader's own.
-fn last_other(appends: &AppendIndex, read: Read<'_>) -> Option<(usize, usize)> {
-    for value in read.seen.iter().rev() {
-        if let Some((by, append)) = appends.find(read.key, *value) {
-            if by != read.reader {
+/// The last of these appends that is not the reader's own.
+fn last_other(spots: &[Option<Spot>], reader: usize) -> Option<Spot> {
+    for spot in spots.iter().rev() {
+        if let Some((by, append)) = *spot {
+            if by != reader {
                 return Some((by, append));
             }
         }
@@ -472,38 +493,14 @@ fn last_other(appends: &AppendIndex, read: Read<'_>) -> Option<(usize, usize)> {
     None
 }
 
-/// The append of the first value of the line that the read missed and that is not the reader's own.
-fn next_other(
-    history: &[Transaction],
-    appends: &AppendIndex,
-    line: Line,
-    read: Read<'_>,
-) -> Option<(usize, usize)> {
-    let whole = read_of(history, line.reader, line.read)?;
-    for value in whole.seen.iter().skip(read.seen.len()) {
-        if let Some((by, append)) = appends.find(read.key, *value) {
-            if by != read.reader {
+/// The first of these appends that is not the reader's own.
+fn next_other(spots: &[Option<Spot>], reader: usize) -> Option<Spot> {
+    for spot in spots {
+        if let Some((by, append)) = *spot {
+            if by != reader {
                 return Some((by, append));
             }
         }
     }
     None
-}
-
-/// The append of the line's last value.
-fn last_of(history: &[Transaction], appends: &AppendIndex, line: Line) -> Option<(usize, usize)> {
-    let whole = read_of(history, line.reader, line.read)?;
-    let value = whole.seen.last()?;
-    appends.find(whole.key, *value)
-}
-
-/// Whether the last value that the read saw is the reader's own.
-fn ends_with_own(appends: &AppendIndex, read: Read<'_>) -> bool {
-    match read.seen.last() {
-        Some(value) => match appends.find(read.key, *value) {
-            Some((by, _)) => by == read.reader,
-            None => false,
-        },
-        None => false,
-    }
 }

@@ -1,9 +1,10 @@
 //! The search for a write order, or for a cycle of ties that leaves none. What it finds is tested by `writes.rt`.
 
-use crate::search::sorted_nodes;
 use crate::survey::length_of;
 use crate::tie::{Ground, Tie};
-use sgt_appends::{AppendIndex, Link, Operation, Read, Reason, Status, Transaction, has, read_of};
+use sgt_appends::{
+    AppendIndex, Link, Operation, Read, Reason, Status, Transaction, has, read_of, sort_within,
+};
 use sgt_model::NoMemory;
 use std::alloc::Global;
 use std::collections::{BTreeMap, BTreeSet};
@@ -299,7 +300,7 @@ impl Notes {
                 },
             })?;
         }
-        match sorted_nodes(alloc, links.as_slice(), history.len())? {
+        match sort_within(alloc, links.as_slice(), history.len())? {
             Some(Ok(sorted)) => Ok(WriteSearch::Order(committed_ones(
                 alloc,
                 history,

@@ -10,5 +10,6 @@ returns-clause-stored c =
     on_ok c.note_end.result _ _ (λ more p was.
     subst (λ n. Stores c.note_end.new.self (ended c.args.status n (begun c.args.status c.args.entry.operations p)))
     (number ∙ ap length was.transactions)
-    (more (begun c.args.status c.args.entry.operations p) (c.in_ok-add.ensures.stored p (c.in_ok-note_owner.ensures.stored p was))))
+    (more (begun c.args.status c.args.entry.operations p) (c.in_ok-add.ensures.stored p
+    (c.in_ok-note_alone.ensures.stored p (c.in_ok-note_owner.ensures.stored p was)))))
     c.note_end.ensures.stored

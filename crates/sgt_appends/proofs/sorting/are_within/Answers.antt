@@ -1,7 +1,7 @@
 use Rattle.sgt_appends.specs.declared.sorting.Link.{Link}
 use Rattle.sgt_appends.specs.declared.witness.Reason.TheVariants.{Seen}
-use Rattle.sgt_levels.proofs.Nodes.{within_one, within_all}
-use Rattle.sgt_levels.proofs.search.are_within.Goals as goal
+use Rattle.sgt_appends.proofs.Nodes.{within_one, within_all}
+use Rattle.sgt_appends.proofs.sorting.are_within.Goals as goal
 
 pub loop-link-preserved : goal.loop-link-preserved
 loop-link-preserved c =
