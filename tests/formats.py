@@ -776,7 +776,7 @@ FIRST_WRONG = (
     ('["job",5,[\u00b51]]', 11, "this is not ASCII"),
     # Values, and what stands in texts.
     ('["job",5,[$5]]', 11, "a value stands here: a number, a text in double quotes, or a list in square brackets"),
-    ('["job",5,[None]]', 11, "a word stands in double quotes"),
+    ('["job",5,[None]]', 11, "JSON has null, true and false, in small letters"),
     ('["job",5,(1)]', 10, "a list stands in square brackets"),
     ('["job",5,[1]/* x */]', 13, "there are no comments"),
     ('["jo\tb",5,[1]]', 5, CONTROL := "a tab or another control character stands in a text as \\t, or as \\u and four hexadecimal digits"),
@@ -1169,6 +1169,8 @@ def explains_lines_of_no_json(sgt):
         (b'["step",0}', "column 10: not JSON from here: a list ends in ]"),
         (b'{"step":[0]],"at":1}', "column 12: not JSON from here: an object ends in }"),
         (b"step 0", "column 1: not JSON from here: a word stands in double quotes"),
+        *((b'["start",0,[%s]]' % number, "column 13: not JSON from here: JSON has no NaN and no Infinity") for number in (b"NaN", b"Infinity")),
+        *((b'["start",0,[%s]]' % word, "column 13: not JSON from here: JSON has null, true and false, in small letters") for word in (b"None", b"True", b"False")),
         (b"['step',0]", "column 2: not JSON from here: a text stands in double quotes"),
         (b"[\xe2\x80\x9cstep\xe2\x80\x9d,0]", "column 2: not JSON from here: a text stands in plain double quotes, as \"step\""),
         (b"# a step", "column 1: not JSON from here: there are no comments"),

@@ -694,6 +694,62 @@ def says_why_events_are_refused(sgt):
                err="".join(f"line {line}: {words}\n" for line, words in reported.items()))
 
 
+def says_for_whom_a_commit_waits(sgt):
+    """A line for each live transaction before its own, with the first accesses that make the edge."""
+    opening = '{"limits":[4,9],"accounts":[],"procedures":[]}\n'
+    events = ['["begin"]', '["begin"]', '["begin"]', '["begin"]', '["read",0,3,7]', '["write",1,3,8,5]', '["read",2,3,8]', '["write",2,3,7,1]',
+              '["commit",2]', '["commit",0]', '["commit",2]', '["commit",1]', '["commit",2]', '["commit",3]']
+    replies = ["started 0", "started 1", "started 2", "started 3", "read 3/7 none", "wrote 3/8 5", "read 3/8 5", "wrote 3/7 1",
+               "waits 0", "committed none", "waits 1", "committed none", "committed none", "committed none"]
+    late = "2 waits for 1: 2 read 3/8 at line 8, which 1 wrote at line 7\n"
+    err = f"line 10: 2 waits for 0: 2 wrote 3/7 at line 9, which 0 read at line 6\nline 10: {late}line 12: {late}"
+    sgt.expect("script", "--explain", given=opening + "\n".join(events), out="".join(f"{reply}\n" for reply in replies) + "3/7 1\n3/8 5\n", err=err)
+
+
+def says_on_which_values_a_code_may_rest(sgt):
+    """If the code comes at the step, and the value is of a live transaction: it may be undone later, as here."""
+    procedures = '[[1,[["find",0,3,7,0],["find",0,3,7,0],["if",["less",["reg",0],["arg",0]],[["ask",9]],[]]]]]'
+    events = '["begin"]\n["write",0,3,7,5]\n["start",5,[6]]\n["step",1]\n["step",1]\n["step",1]\n'
+    replies = "started 0\nwrote 3/7 5\nstarted 1\nread 3/7 5\nread 3/7 5\n"
+    aborted = "procedure 5 aborted 1 with code 9\n"
+    undone = '["quit",0]\n["start",5,[0]]\n["step",2]\n["step",2]\n["commit",2]\n'
+    sgt.expect("script", "--explain", given='{"limits":[4,9],"accounts":[],"procedures":' + procedures + "}\n" + events + undone,
+               out=replies + "aborted asked 9 fell none\naborted quit fell none\nstarted 2\nread 3/7 none\nread 3/7 none\ncommitted none\n",
+               err=f"line 7: {aborted}line 7: the code may rest on an uncommitted value: 1 read 3/7 of 0 at line 5\n")
+    committed = events.replace('["start"', '["commit",0]\n["start"', 1)
+    sgt.expect("script", "--explain", given='{"limits":[4,9],"accounts":[],"procedures":' + procedures + "}\n" + committed,
+               out=replies.replace("started 1", "committed none\nstarted 1") + "aborted asked 9 fell none\n3/7 5\n", err=f"line 8: {aborted}")
+    at_commit = events.replace('["step",1]\n', "", 1) + '["commit",1]\n["commit",0]\n["commit",1]\n'
+    sgt.expect("script", "--explain", given='{"limits":[4,9,1],"accounts":[],"procedures":' + procedures + "}\n" + at_commit.replace('["commit",1]', '["step",1]\n["commit",1]', 1),
+               out=replies + "ended\nwaits 0\ncommitted none\nrefused 9 fell none\n3/7 5\n",
+               err=f"line 8: 1 waits for 0: 1 read 3/7 at line 5, which 0 wrote at line 3\nline 10: {aborted}")
+
+
+def ends_well_whatever_the_replies(sgt):
+    """Also if every start is refused. A program that wants another status reads the replies."""
+    opening = '{"limits":[1,1],"accounts":[],"procedures":[]}\n'
+    script = '["begin"]\n["quit",0]\n' + '["begin"]\n' * 50 + '["step",9]\n["start",9,[]]\n'
+    sgt.expect("script", given=opening + script, out="started 0\naborted quit fell none\n" + "spent\n" * 50 + "unknown\nno procedure\n")
+    jobs = '["job",65535,[]]\n' * 3 + '["job",9,[]]\n'
+    sgt.expect("bank", "--workers", "1", "--tries", "1", given=opening + jobs, out="0 committed none\n1 refused 3\n2 refused 3\n3 refused 1\n")
+
+
+def says_what_json_does_not_have(sgt):
+    """In a second line, of what clients saw: numbers that are none, numbers written otherwise, and EDN among JSON."""
+    entry = '{"type":"ok","process":0,"value":[["append",1,1]]}\n'
+    number = "a number is written as 10 or -5 in JSON, without a plus, a leading zero or other signs"
+    for value, words in (
+        *((value, "JSON has no NaN and no Infinity") for value in ("NaN", "Infinity", "-Infinity")),
+        *((value, "JSON has null, true and false, in small letters") for value in ("None", "True", "False")),
+        *((value, number) for value in (".5", "+1", "01", "0x1F", "-.5", "-01")),
+    ):
+        given = entry + f'{{"type":"ok","process":1,"value":[["r",1,[1]]],"time":{value}}}\n'
+        same(value, (2, f"line 2, entry 2: no JSON from column 55 on\n{words}\n"), sgt.run("check", "--model", "list-append", given=given)[::2])
+    given = entry + "{:type :ok, :process 1, :value [[:r 1 [1]]]}\n"
+    sgt.expect("check", "--model", "list-append", given=given, status=2,
+               err="line 2, entry 2: no JSON from column 2 on\nthis entry is EDN, and the first one is JSON: an input has one of them\n")
+
+
 def says_how_each_job_of_the_examples_ended(sgt):
     for jobs, words in banks():
         status, wrote, reported = sgt.run("bank", "--explain", *words, given=jobs.read_text())
@@ -1187,40 +1243,55 @@ def line_of(one):
 
 
 def gives_signs_of_life(sgt):
-    """How many jobs of a bank have ended, or events of a script are answered, at most once a second: on a terminal, or with an option."""
-    bank = OVERLAPPING + '["job",6,[]]\n' * 40_000
+    """How many jobs of a bank have ended, or events of a script are answered, at most once a second: on a terminal, or with an option. There
+    are more jobs each time until they take so long that there is a line, on however quick or slow a machine."""
     for words, terminal, shows in ((["--progress"], False, True), ([], True, True), ([], False, False), (["--no-progress"], True, False)):
-        ours, theirs = os.openpty() if terminal else os.pipe()
-        with tempfile.TemporaryFile() as given:
-            given.write(bank.encode())
-            given.seek(0)
-            began = time.monotonic()
-            process = sgt.start("bank", *words, stdin=given, stdout=subprocess.DEVNULL, stderr=theirs)
-        os.close(theirs)
-        lines = read_terminal(ours).splitlines()
-        same("status", 0, process.wait(SECONDS))
-        seconds = time.monotonic() - began
-        same(f"{words}, a terminal: {terminal}", [], [line for line in lines if not re.fullmatch("[0-9]+ jobs have ended", line)])
-        if len(lines) > (seconds if shows else 0) or shows and seconds > 3 and not lines:
-            raise Differs(f"{words}, a terminal: {terminal}: {len(lines)} lines in {seconds} seconds")
+        for jobs in (40_000, 80_000, 160_000, 320_000, 640_000, 1_280_000) if shows else (40_000,):
+            lines, seconds = signs_of_life(sgt, words, terminal, jobs)
+            same(f"{words}, a terminal: {terminal}", [], [line for line in lines if not re.fullmatch("[0-9]+ jobs have ended", line)])
+            if len(lines) > (seconds if shows else 0):
+                raise Differs(f"{words}, a terminal: {terminal}: {len(lines)} lines in {seconds} seconds")
+            if lines:
+                break
+        same(f"{words}, a terminal: {terminal}: whether there is a line", shows, bool(lines))
+
+
+def signs_of_life(sgt, words, terminal, jobs):
+    """What a bank with so many jobs says on standard error, and the seconds that it takes."""
+    ours, theirs = os.openpty() if terminal else os.pipe()
+    with tempfile.TemporaryFile() as given:
+        given.write((OVERLAPPING + '["job",6,[]]\n' * jobs).encode())
+        given.seek(0)
+        began = time.monotonic()
+        process = sgt.start("bank", *words, stdin=given, stdout=subprocess.DEVNULL, stderr=theirs)
+    os.close(theirs)
+    lines = read_terminal(ours).splitlines()
+    same("status", 0, process.wait(SECONDS))
+    return lines, time.monotonic() - began
 
 
 def says_how_far_a_script_is(sgt):
     """Events and bytes, of how many if it is a file: before a read that comes a second after the last line, on a terminal or with an option."""
     for words, terminal, shows in ((["--progress"], False, True), (["--progress", "--explain"], False, True), ([], True, True), ([], False, False), (["--no-progress"], True, False)):
         ours, theirs = os.openpty() if terminal else os.pipe()
-        process = sgt.start("script", *words, stdin=subprocess.PIPE, stdout=subprocess.DEVNULL, stderr=theirs)
+        began = time.monotonic()
+        process = sgt.start("script", *words, stdin=subprocess.PIPE, stdout=subprocess.PIPE, stderr=theirs)
         os.close(theirs)
         process.stdin.write((OPENING + EVENTS).encode())
         process.stdin.flush()
+        same("the first replies", REPLIES, "".join(process.stdout.readline().decode() for _ in REPLIES.splitlines()))
+        took = time_until_it_waits(process, began)
         time.sleep(1.2)
         process.stdin.write(b'["commit",0]\n["cut"]\n["quit",0]\n')
         process.stdin.close()
         lines = read_terminal(ours).splitlines()
+        same("the other replies", "not ended\nstill live\naborted quit fell none\n" + RECORDS, process.stdout.read().decode())
         same("status", 0, process.wait(SECONDS))
         size = len(OPENING + EVENTS) + 32
         wanted = [f"4 events are answered: {size} bytes"] if shows else []
         reasons = ["line 4: the procedure of 0 has not ended: it has another step"] if "--explain" in words else []
+        if shows and took >= 1 and lines[:1] == [f"2 events are answered: {size - 32} bytes"]:  # a slow machine took a second for these
+            del lines[0]
         same(f"{words}, a terminal: {terminal}", reasons + wanted, [line for line in lines if "transaction" not in line])
     with tempfile.TemporaryDirectory() as folder:
         given = os.path.join(folder, "given")
@@ -1233,6 +1304,16 @@ def says_how_far_a_script_is(sgt):
         came = [re.fullmatch(f"([0-9]+) events are answered: ([0-9]+) of {size} bytes", line) for line in lines]
         if None in came or len(came) > seconds or any(int(one[2]) != len(OPENING) + 11 * int(one[1]) for one in came):
             raise Differs(f"{lines} in {seconds} seconds")
+
+
+def time_until_it_waits(process, began):
+    """The seconds until a program sleeps, as it does where it reads what nobody has written yet."""
+    while (took := time.monotonic() - began) < SECONDS:
+        with open(f"/proc/{process.pid}/stat", encoding="ascii") as stat:
+            if stat.read().rpartition(")")[2].split()[0] == "S":
+                break
+        time.sleep(0.01)
+    return took
 
 
 def wants_an_opening(sgt):
@@ -1413,6 +1494,10 @@ CASES = [
     takes_words_for_codes,
     says_which_words_are_of_no_procedure,
     says_why_events_are_refused,
+    says_for_whom_a_commit_waits,
+    says_on_which_values_a_code_may_rest,
+    ends_well_whatever_the_replies,
+    says_what_json_does_not_have,
     says_how_each_job_of_the_examples_ended,
     reports_by_whom_tries_were_aborted,
     reports_on_a_terminal_how_many_jobs_have_ended,
