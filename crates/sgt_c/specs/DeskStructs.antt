@@ -43,14 +43,20 @@ desk_in d h = record {
 -- ---- a call, read
 
 -- 1: it never rests. 2: until this time. Else it rests as long as it takes
+abbrev pub deadline_of : ℕ → ℕ → Deadline
+deadline_of until deadline = cond (nat_eq until 1) AtOnce (cond (nat_eq until 2) (At deadline) Never)
+
 abbrev pub deadline_in : SgtAsk → Deadline
-deadline_in s = cond (nat_eq s.until 1) AtOnce (cond (nat_eq s.until 2) (At s.deadline) Never)
+deadline_in s = deadline_of s.until s.deadline
 
 -- the reason of each number from 1 on; 0 is none
+abbrev pub reason_of : ℕ → ℕ → ℕ → ℕ → Option Reason
+reason_of reason number turn first = cond (nat_eq reason 1) (Some (Turn turn first)) (cond (nat_eq reason 2) (Some (Full number))
+    (cond (nat_eq reason 3) (Some (End number)) (cond (nat_eq reason 4) (Some (Busy number))
+    (cond (nat_eq reason 5) (Some Cut) None))))
+
 abbrev pub reason_in : SgtAsk → Option Reason
-reason_in s = cond (nat_eq s.reason 1) (Some (Turn s.turn s.first)) (cond (nat_eq s.reason 2) (Some (Full s.number))
-    (cond (nat_eq s.reason 3) (Some (End s.number)) (cond (nat_eq s.reason 4) (Some (Busy s.number))
-    (cond (nat_eq s.reason 5) (Some Cut) None))))
+reason_in s = reason_of s.reason s.number s.turn s.first
 
 -- the call, without a reply
 abbrev pub ask_in : SgtAsk → Ask
@@ -81,97 +87,6 @@ IsAsk s a = ask_in s ≡ replied bare.Unknown a
 -- the same of a run
 abbrev pub IsRun : SgtRun → Run → Type 0
 IsRun s r = run_in s ≡ run_replied bare.Unknown r
-
--- ---- a call, written
-
--- the number of each deadline, as `deadline_in` reads it
-abbrev pub until_of : Deadline → ℕ
-until_of Never = 0
-until_of AtOnce = 1
-until_of (At at) = 2
-
--- its time, if it has one
-abbrev pub time_of : Deadline → ℕ
-time_of Never = 0
-time_of AtOnce = 0
-time_of (At at) = at
-
--- the number of each reason, as `reason_in` reads it
-abbrev pub kind_of : Option Reason → ℕ
-kind_of None = 0
-kind_of (Some (Turn t u)) = 1
-kind_of (Some (Full n)) = 2
-kind_of (Some (End n)) = 3
-kind_of (Some (Busy n)) = 4
-kind_of (Some Cut) = 5
-
--- of a commit that waits: its transaction
-abbrev pub turn_of : Option Reason → ℕ
-turn_of (Some (Turn t u)) = t
-turn_of _ = 0
-
--- and the one that it waits for
-abbrev pub first_of : Option Reason → ℕ
-first_of (Some (Turn t u)) = u
-first_of _ = 0
-
--- the number of any other reason that has one
-abbrev pub number_of : Option Reason → ℕ
-number_of (Some (Full n)) = n
-number_of (Some (End n)) = n
-number_of (Some (Busy n)) = n
-number_of _ = 0
-
--- the struct of a call, which has no place for its reply
-abbrev pub ask_struct : Ask → SgtAsk
-ask_struct a = record {
-  until = until_of a.deadline;
-  reason = kind_of a.reason;
-  deadline = time_of a.deadline;
-  number = number_of a.reason;
-  turn = turn_of a.reason;
-  first = first_of a.reason;
-  is_counted = cond a.is_counted 1 0;
-  spare = 0;
-}
-
--- the part of the history that a ticket names, and 0 without a ticket
-abbrev pub part_of : Option Ticket → ℕ
-part_of None = 0
-part_of (Some k) = k.part
-
--- its transaction, and 0 without a ticket
-abbrev pub tid_of : Option Ticket → ℕ
-tid_of None = 0
-tid_of (Some k) = k.tid
-
--- 1 with a ticket
-abbrev pub has_ticket : Option Ticket → ℕ
-has_ticket None = 0
-has_ticket (Some k) = 1
-
--- 1 with a transaction
-abbrev pub has_tid : Option ℕ → ℕ
-has_tid None = 0
-has_tid (Some t) = 1
-
--- the transaction, and 0 without one
-abbrev pub tid_or_0 : Option ℕ → ℕ
-tid_or_0 None = 0
-tid_or_0 (Some t) = t
-
--- the struct of a run, which has no place for its reply
-abbrev pub run_struct : Run → SgtRun
-run_struct r = record {
-  ask = ask_struct r.ask;
-  tries = r.tries;
-  most = r.most;
-  part = part_of r.ticket;
-  tid = tid_of r.ticket;
-  has_ticket = has_ticket r.ticket;
-  attempt = tid_or_0 r.attempt;
-  has_attempt = has_tid r.attempt;
-}
 
 -- ---- what is asked of a transaction
 

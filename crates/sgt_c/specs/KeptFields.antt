@@ -102,20 +102,6 @@ pub record KeepsOtherFaultFields (old new : SgtFault) : Type 0 where
 
 -- ---- an event in parts
 
--- the event of this kind that names a transaction
-abbrev pub with_named : ℕ → ℕ → SgtEvent → SgtEvent
-with_named kind t s = record {
-  kind = kind;
-  tid = t;
-  procedure = s.procedure;
-  args = s.args;
-  arg = s.arg;
-  table = s.table;
-  spare = s.spare;
-  number = s.number;
-  value = s.value;
-}
-
 -- the event of this kind that names a transaction and a record
 abbrev pub with_key : ℕ → ℕ → Key → SgtEvent → SgtEvent
 with_key kind t key s = record {
@@ -131,26 +117,6 @@ with_key kind t key s = record {
 }
 
 -- ---- a reply in parts
-
--- the reply of this kind that names a record
-abbrev pub with_record : ℕ → Key → SgtReply → SgtReply
-with_record kind key s = record {
-  kind = kind;
-  cause = s.cause;
-  tid = s.tid;
-  code = s.code;
-  table = key.0;
-  found = s.found;
-  number = key.1;
-  value = s.value;
-  answers = s.answers;
-  walked = s.walked;
-  fallen = s.fallen;
-  spare = s.spare;
-  answer = s.answer;
-  walk = s.walk;
-  fell = s.fell;
-}
 
 -- the fields of a cause are those of the second, and all others those of the first
 abbrev pub with_cause : SgtReply → SgtReply → SgtReply

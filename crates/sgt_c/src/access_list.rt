@@ -6,7 +6,7 @@ ghost use Rattle.sgt_c.specs.Handles.{Visits};
 ghost use Rattle.sgt_c.specs.ReplayedCalls.{IsLegal, past_at};
 
 use crate::access_struct::SgtAccess;
-use crate::handle::Handle;
+use crate::handle::{Handle, take_held};
 use crate::status;
 use sgt_log::{EntryRef, History};
 use sgt_model::{Event, ShortReply, Tid};
@@ -35,12 +35,7 @@ pub extern "C" fn sgt_accesses(
     ensures unwritten { result ≢ 0 → (accesses.new ≡ accesses.old) × (count.new ≡ count.old) }
     ensures same { engine.new.slot.held ≡ engine.old.slot.held }
 {
-    if engine.is_busy() {
-        return status::BUSY;
-    }
-    let Some(held) = engine.take(alloc) else {
-        return status::CLOSED;
-    };
+    let held = take_held!(alloc, engine);
     let written = write_accesses(accesses, held.engine.history(), Tid(t));
     engine.put(held);
     *count = written as u64;

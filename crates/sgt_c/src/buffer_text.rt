@@ -18,17 +18,24 @@ use sgt_model::NoMemory;
 use std::alloc::{AllocError, Global};
 
 /// Writes the text of a reply, as in a line of a script, without the line's end. The text is written whole if it fits,
-/// and else not at all. Its length is returned in both cases. The call allocates memory for the text and frees it.
+/// and else not at all. Its length is written to `length` in both cases. The call allocates memory for the text and
+/// frees it.
 ///
 /// - `BAD_CALL`: the fields say no reply.
 /// - `NO_MEMORY`: an allocation failed.
-pub fn write_reply_text(alloc: Global, fields: &SgtReply, text: &mut [u8], length: &mut u64) -> u32
-    ensures text { (r : Reply) → HoldsValidReply fields.now r → result ≡ 0 → IsWritten (reply_text r) text.old text.new length.new }
-    ensures bad_call { (result ≡ 5) ↔ ((r : Reply) → ¬ HoldsValidReply fields.now r) }
+#[unsafe(no_mangle)]
+pub extern "C" fn sgt_reply_text(
+    alloc: Global,
+    reply: &SgtReply,
+    text: &mut [u8],
+    length: &mut u64,
+) -> u32
+    ensures text { (r : Reply) → HoldsValidReply reply.now r → result ≡ 0 → IsWritten (reply_text r) text.old text.new length.new }
+    ensures bad_call { (result ≡ 5) ↔ ((r : Reply) → ¬ HoldsValidReply reply.now r) }
     ensures statuses { result ≢ 5 → result ≤ 1 }
     ensures unwritten { result ≢ 0 → (text.new ≡ text.old) × (length.new ≡ length.old) }
 {
-    let Some(reply) = reply_of(fields) else {
+    let Some(reply) = reply_of(reply) else {
         return status::BAD_CALL;
     };
     match reply_line(alloc, &reply) {
@@ -41,12 +48,18 @@ pub fn write_reply_text(alloc: Global, fields: &SgtReply, text: &mut [u8], lengt
 }
 
 /// Writes the text of a fault, as the program reports it for line 1. The text is written whole if it fits, and else not
-/// at all. Its length is returned in both cases. The call allocates memory for the text and frees it.
+/// at all. Its length is written to `length` in both cases. The call allocates memory for the text and frees it.
 ///
 /// - `BAD_CALL`: the kind is not that of a fault.
 /// - `NO_MEMORY`: an allocation failed.
+#[unsafe(no_mangle)]
 #[tactic(auto, using(crate::proofs::Writings::fault_words))]
-pub fn write_fault_text(alloc: Global, fault: &SgtFault, text: &mut [u8], length: &mut u64) -> u32
+pub extern "C" fn sgt_fault_text(
+    alloc: Global,
+    fault: &SgtFault,
+    text: &mut [u8],
+    length: &mut u64,
+) -> u32
     ensures text { (e : OpeningError) → HoldsFault fault.now e → result ≡ 0 → IsWritten (fault_text e) text.old text.new length.new }
     ensures bad_call { (result ≡ 5) ↔ (¬ IsFaultKind fault.now.kind) }
     ensures statuses { result ≢ 5 → result ≤ 1 }

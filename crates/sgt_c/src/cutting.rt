@@ -5,7 +5,7 @@ ghost use Rattle.sgt_engine.specs.Cuts.{NobodyLive};
 ghost use Rattle.sgt_c.specs.Cuts.{Cut, HasNoPart, IsCut, IsLastPart, IsSomeoneLive, IsTooEarly, ReportsLive};
 ghost use Rattle.sgt_c.specs.Handles.{Visits};
 
-use crate::handle::Handle;
+use crate::handle::{Handle, take_held};
 use crate::held::Held;
 use crate::status;
 use sgt_assembly::SgtEngine;
@@ -31,12 +31,7 @@ pub extern "C" fn sgt_cut(alloc: Global, engine: &mut Handle, live: &mut u64) ->
     ensures too_many { (result ≡ 9) ↔ IsLastPart engine.old.slot.held }
     ensures statuses { result ≢ 10 → result ≢ 6 → result ≢ 9 → result ≤ 2 }
 {
-    if engine.is_busy() {
-        return status::BUSY;
-    }
-    let Some(mut held) = engine.take(alloc) else {
-        return status::CLOSED;
-    };
+    let mut held = take_held!(alloc, engine);
     let cut = cut(alloc, &mut held);
     engine.put(held);
     match cut {
@@ -62,12 +57,7 @@ pub extern "C" fn sgt_part(alloc: Global, engine: &mut Handle, part: &mut u64) -
     ensures kept { result ≢ 0 → part.new ≡ part.old }
     ensures same { engine.new.slot.held ≡ engine.old.slot.held }
 {
-    if engine.is_busy() {
-        return status::BUSY;
-    }
-    let Some(held) = engine.take(alloc) else {
-        return status::CLOSED;
-    };
+    let held = take_held!(alloc, engine);
     *part = held.part;
     engine.put(held);
     status::OK

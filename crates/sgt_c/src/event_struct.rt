@@ -2,7 +2,7 @@
 ghost use Rattle.std.specs.Prelude.{◌≡◌, ◌≤◌, drop, take};
 ghost use Rattle.sgt_model.specs.declared.event.Event.TheVariants as event;
 ghost use Rattle.sgt_c.specs.EventStructs.{HoldsEvent};
-ghost use Rattle.sgt_c.specs.KeptFields.{KeepsOtherEventFields, with_key, with_named};
+ghost use Rattle.sgt_c.specs.KeptFields.{KeepsOtherEventFields, with_key};
 
 use sgt_model::{Args, Event, Key, Request};
 
@@ -36,18 +36,20 @@ pub fn write_event(into: &mut SgtEvent, event: &Event)
             into.procedure = *procedure as u32;
             into.args = write_args(&mut into.arg, args);
         }
-        Event::Step(t) => write_named(into, 2, t.0),
+        Event::Step(t) => {
+            into.kind = 2;
+            into.tid = t.0;
+        }
         Event::Access(t, request) => write_request(into, t.0, request),
-        Event::Commit(t) => write_named(into, 3, t.0),
-        Event::Quit(t) => write_named(into, 4, t.0),
+        Event::Commit(t) => {
+            into.kind = 3;
+            into.tid = t.0;
+        }
+        Event::Quit(t) => {
+            into.kind = 4;
+            into.tid = t.0;
+        }
     }
-}
-
-fn write_named(into: &mut SgtEvent, kind: u32, t: u32)
-    ensures { into.new ≡ with_named kind t into.old }
-{
-    into.kind = kind;
-    into.tid = t;
 }
 
 fn write_request(into: &mut SgtEvent, t: u32, request: &Request)

@@ -12,7 +12,7 @@ ghost use Rattle.sgt_c.specs.Asked.{IsCall};
 ghost use Rattle.sgt_c.specs.Handles.{Visits, VisitsIf};
 ghost use Rattle.sgt_c.specs.KeptFields.{KeepsOtherFields, WritesReply};
 
-use crate::handle::Handle;
+use crate::handle::{Handle, take_held};
 use crate::held::Held;
 use crate::reply_struct::{SgtReply, write_reply};
 use crate::requested::{arguments, is_call};
@@ -107,19 +107,12 @@ pub fn apply_event(alloc: Global, engine: &mut Handle, event: Event, reply: &mut
     ensures quits { QuitsSucceed event engine.old.slot.held result }
     ensures statuses { result ≢ 10 → result ≤ 2 }
 {
-    if engine.is_busy() {
-        return status::BUSY;
-    }
-    match engine.take(alloc) {
-        Some(mut held) => {
-            let answered = answer(&mut held, event, reply);
-            engine.put(held);
-            match answered {
-                Ok(()) => status::OK,
-                Err(NoMemory) => status::NO_MEMORY,
-            }
-        }
-        None => status::CLOSED,
+    let mut held = take_held!(alloc, engine);
+    let answered = answer(&mut held, event, reply);
+    engine.put(held);
+    match answered {
+        Ok(()) => status::OK,
+        Err(NoMemory) => status::NO_MEMORY,
     }
 }
 

@@ -8,6 +8,21 @@ use crate::slot::Slot;
 use std::alloc::Global;
 use std::mem::replace;
 
+/// Takes the engine out of a handle. If another call is in it, or there is none, the function returns that status.
+macro_rules! take_held {
+    ($alloc:expr, $engine:expr) => {{
+        if $engine.is_busy() {
+            return $crate::status::BUSY;
+        }
+        let Some(held) = $engine.take($alloc) else {
+            return $crate::status::CLOSED;
+        };
+        held
+    }};
+}
+
+pub(crate) use take_held;
+
 /// The state of a handle that is empty.
 const CLOSED: u8 = 0;
 

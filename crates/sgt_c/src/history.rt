@@ -7,11 +7,11 @@ ghost use Rattle.sgt_c.specs.Entries.{HoldsEntry, ReturnsEntry, HasNoEntry};
 ghost use Rattle.sgt_c.specs.Handles.{Visits};
 
 use crate::event_struct::{SgtEvent, write_event};
-use crate::handle::Handle;
+use crate::handle::{Handle, take_held};
 use crate::reply_struct::{SgtReply, write_reply};
 use crate::status;
 use sgt_log::{EntryRef, History};
-use sgt_model::{Answers, NoMemory, ReplyLists, Tid, Tids};
+use sgt_model::{NoMemory, ReplyLists, answers_of, tids_of};
 use std::alloc::Global;
 
 /// The number of entries in the history: one for each event.
@@ -25,12 +25,7 @@ pub extern "C" fn sgt_entries(alloc: Global, engine: &mut Handle, count: &mut u6
     ensures kept { result ≢ 0 → count.new ≡ count.old }
     ensures same { engine.new.slot.held ≡ engine.old.slot.held }
 {
-    if engine.is_busy() {
-        return status::BUSY;
-    }
-    let Some(held) = engine.take(alloc) else {
-        return status::CLOSED;
-    };
+    let held = take_held!(alloc, engine);
     *count = held.engine.history().len() as u64;
     engine.put(held);
     status::OK
@@ -57,12 +52,7 @@ pub extern "C" fn sgt_entry(
     ensures writes { WritesReply result reply.old reply.new }
     ensures same { engine.new.slot.held ≡ engine.old.slot.held }
 {
-    if engine.is_busy() {
-        return status::BUSY;
-    }
-    let Some(held) = engine.take(alloc) else {
-        return status::CLOSED;
-    };
+    let held = take_held!(alloc, engine);
     let found = write_entry(held.engine.history(), place, event, reply);
     engine.put(held);
     if found { status::OK } else { status::NONE }
@@ -99,26 +89,6 @@ fn lists_of(entry: &EntryRef<'_>) -> ReplyLists
     }
 }
 
-fn answers_of(items: &[i64]) -> Answers
-    requires { length items.now ≤ 8 }
-    ensures { result ≡ items.now }
-{
-    match Answers::from_slice(items) {
-        Some(answers) => answers,
-        None => unreachable!(),
-    }
-}
-
-fn tids_of(items: &[Tid]) -> Tids
-    requires { length items.now ≤ 32 }
-    ensures { result ≡ items.now }
-{
-    match Tids::from_slice(items) {
-        Some(tids) => tids,
-        None => unreachable!(),
-    }
-}
-
 /// Allocates memory for this many more entries, so that the present ones are not moved until then. The lists in new
 /// entries are not counted in. Nothing else changes.
 ///
@@ -129,12 +99,7 @@ pub extern "C" fn sgt_reserve(alloc: Global, engine: &mut Handle, entries: u64) 
     ensures statuses { result ≢ 10 → result ≤ 2 }
     ensures same { engine.new.slot.held ≡ engine.old.slot.held }
 {
-    if engine.is_busy() {
-        return status::BUSY;
-    }
-    let Some(mut held) = engine.take(alloc) else {
-        return status::CLOSED;
-    };
+    let mut held = take_held!(alloc, engine);
     let reserved = held.engine.reserve(entries as usize);
     engine.put(held);
     match reserved {

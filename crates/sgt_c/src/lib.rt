@@ -19,7 +19,6 @@
 
 // The structs of C, and how they are written and read.
 mod access_struct;
-mod buffer_text;
 mod call_struct;
 mod event_struct;
 mod fault_struct;
@@ -36,6 +35,7 @@ mod slot;
 
 // The calls.
 mod access_list;
+mod buffer_text;
 mod cutting;
 mod events;
 mod explanations;
@@ -55,7 +55,6 @@ mod requested;
 mod rows;
 mod run;
 mod run_many;
-mod texts;
 mod writes;
 
 // An engine that threads share.

@@ -3,7 +3,7 @@ ghost use Rattle.std.specs.Prelude.{◌≡◌, ◌≢◌, IfSome};
 ghost use Rattle.sgt_c.specs.Limits.{code_time, limits_of};
 ghost use Rattle.sgt_c.specs.Handles.{Visits};
 
-use crate::handle::Handle;
+use crate::handle::{Handle, take_held};
 use crate::status;
 use sgt_model::Asks;
 use std::alloc::Global;
@@ -20,12 +20,7 @@ pub extern "C" fn sgt_limits(alloc: Global, engine: &mut Handle, limits: &mut [u
     ensures kept { result ≢ 0 → limits.new ≡ limits.old }
     ensures same { engine.new.slot.held ≡ engine.old.slot.held }
 {
-    if engine.is_busy() {
-        return status::BUSY;
-    }
-    let Some(held) = engine.take(alloc) else {
-        return status::CLOSED;
-    };
+    let held = take_held!(alloc, engine);
     let said = held.engine.sched().limits();
     engine.put(held);
     *limits = [

@@ -3,7 +3,7 @@ ghost use Rattle.std.specs.Prelude.{◌≡◌, ◌≢◌, IfSome, drop, length, 
 ghost use Rattle.sgt_model.specs.Fates.{live_ones};
 ghost use Rattle.sgt_c.specs.Handles.{Visits};
 
-use crate::handle::Handle;
+use crate::handle::{Handle, take_held};
 use crate::reply_struct::write_tids;
 use crate::status;
 use std::alloc::Global;
@@ -26,12 +26,7 @@ pub extern "C" fn sgt_live_tids(
     ensures unwritten { result ≢ 0 → (tids.new ≡ tids.old) × (count.new ≡ count.old) }
     ensures same { engine.new.slot.held ≡ engine.old.slot.held }
 {
-    if engine.is_busy() {
-        return status::BUSY;
-    }
-    let Some(held) = engine.take(alloc) else {
-        return status::CLOSED;
-    };
+    let held = take_held!(alloc, engine);
     let live = held.engine.sched().live();
     engine.put(held);
     *count = u64::from(write_tids(tids, &live));

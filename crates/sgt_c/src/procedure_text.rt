@@ -5,7 +5,7 @@ ghost use Rattle.sgt_c.specs.Handles.{Visits};
 ghost use Rattle.sgt_c.specs.ProcedureTexts.{HasNoProcedure, ReturnsProcedure, SpellsAt};
 
 use crate::buffer_text::write_text;
-use crate::handle::Handle;
+use crate::handle::{Handle, take_held};
 use crate::status;
 use sgt_assembly::SgtEngine;
 use sgt_model::NoMemory;
@@ -35,12 +35,7 @@ pub extern "C" fn sgt_procedure_text(
     ensures unwritten { result ≢ 0 → (text.new ≡ text.old) × (length.new ≡ length.old) }
     ensures same { engine.new.slot.held ≡ engine.old.slot.held }
 {
-    if engine.is_busy() {
-        return status::BUSY;
-    }
-    let Some(held) = engine.take(alloc) else {
-        return status::CLOSED;
-    };
+    let held = take_held!(alloc, engine);
     let line = line_at(alloc, &held.engine, number);
     engine.put(held);
     match line {

@@ -5,7 +5,7 @@ ghost use Rattle.sgt_c.specs.Puts.{Added, HasBegun, HasNoNumber, IsAdded, IsRefu
 ghost use Rattle.sgt_c.specs.Handles.{Visits};
 
 use crate::fault_struct::{SgtFault, write_fault};
-use crate::handle::Handle;
+use crate::handle::{Handle, take_held};
 use crate::held::Held;
 use crate::status;
 use sgt_engine::AddError;
@@ -40,12 +40,7 @@ pub extern "C" fn sgt_procedure(
     ensures unwritten { result ≢ 1 → result < 16 → fault.new ≡ fault.old }
     ensures fault_kept { KeepsOtherFaultFields fault.old fault.new }
 {
-    if engine.is_busy() {
-        return status::BUSY;
-    }
-    let Some(mut held) = engine.take(alloc) else {
-        return status::CLOSED;
-    };
+    let mut held = take_held!(alloc, engine);
     let added = add(alloc, &mut held, text);
     engine.put(held);
     match added {

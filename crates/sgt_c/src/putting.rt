@@ -7,7 +7,7 @@ ghost use Rattle.sgt_c.specs.Puts.{HasBegun, IsFirstBad, IsTakenIn, Put};
 ghost use Rattle.sgt_c.specs.Rows.{IsRow, row_of};
 ghost use Rattle.sgt_c.specs.Handles.{VisitsIf};
 
-use crate::handle::Handle;
+use crate::handle::{Handle, take_held};
 use crate::held::Held;
 use crate::row_struct::{SgtRow, first_bad, keyed_row};
 use crate::status;
@@ -40,12 +40,7 @@ pub extern "C" fn sgt_put(alloc: Global, engine: &mut Handle, rows: &[SgtRow], a
         *at = bad as u64;
         return status::BAD_CALL;
     }
-    if engine.is_busy() {
-        return status::BUSY;
-    }
-    let Some(mut held) = engine.take(alloc) else {
-        return status::CLOSED;
-    };
+    let mut held = take_held!(alloc, engine);
     let put = put(alloc, &mut held, rows);
     engine.put(held);
     match put {

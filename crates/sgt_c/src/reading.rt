@@ -7,7 +7,7 @@ ghost use Rattle.sgt_engine.specs.EngineView.{configuration_of};
 ghost use Rattle.sgt_c.specs.Asked.{IsRecord};
 ghost use Rattle.sgt_c.specs.Handles.{VisitsIf};
 
-use crate::handle::Handle;
+use crate::handle::{Handle, take_held};
 use crate::requested::keyed;
 use crate::status;
 use std::alloc::Global;
@@ -40,12 +40,7 @@ pub extern "C" fn sgt_get(
     let Some(key) = keyed(table, number) else {
         return status::BAD_CALL;
     };
-    if engine.is_busy() {
-        return status::BUSY;
-    }
-    let Some(held) = engine.take(alloc) else {
-        return status::CLOSED;
-    };
+    let held = take_held!(alloc, engine);
     let found = held.engine.committed(key);
     engine.put(held);
     match found {

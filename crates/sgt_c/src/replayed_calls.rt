@@ -14,7 +14,7 @@ ghost use Rattle.sgt_c.specs.Reruns.{CanBeRerun};
 ghost use Rattle.sgt_c.specs.Handles.{Visits};
 
 use crate::call_struct::{SgtCall, Started};
-use crate::handle::Handle;
+use crate::handle::{Handle, take_held};
 use crate::status;
 use sgt_log::{EntryRef, History};
 use sgt_model::{Args, Event, ShortReply, Tid};
@@ -53,12 +53,7 @@ pub extern "C" fn sgt_calls(
 {
     // If the calls that a history reports run one after another on a new engine, each gets the same result.
     reruns_agree();
-    if engine.is_busy() {
-        return status::BUSY;
-    }
-    let Some(held) = engine.take(alloc) else {
-        return status::CLOSED;
-    };
+    let held = take_held!(alloc, engine);
     let passed = pass(held.engine.history(), from, calls);
     engine.put(held);
     match passed {

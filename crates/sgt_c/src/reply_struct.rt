@@ -2,7 +2,7 @@
 ghost use Rattle.std.specs.Prelude.{◌≡◌, ◌≤◌, ◌||◌, true, nat_eq, drop, length, take};
 ghost use Rattle.sgt_model.specs.declared.reply.Reply.TheVariants as reply;
 ghost use Rattle.sgt_model.specs.ShortReplies.{full_cause, full_fate, reply_with};
-ghost use Rattle.sgt_c.specs.KeptFields.{KeepsOtherFields, WritesCause, with_record};
+ghost use Rattle.sgt_c.specs.KeptFields.{KeepsOtherFields, WritesCause};
 ghost use Rattle.sgt_c.specs.ReplyStructs.{HoldsAccess, HoldsCause, HoldsReply};
 
 use sgt_model::{Answers, Key, ReplyLists, ShortCause, ShortFate, ShortReply, Tids};
@@ -32,31 +32,6 @@ pub struct SgtReply {
     pub answer: [i64; 8],
     pub walk: [u32; 32],
     pub fell: [u32; 32],
-}
-
-impl SgtReply {
-    /// A struct of zeros, which holds no reply.
-    pub fn zeroed() -> SgtReply
-        ensures { result.kind ≡ 0 }
-    {
-        SgtReply {
-            kind: 0,
-            cause: 0,
-            tid: 0,
-            code: 0,
-            table: 0,
-            found: 0,
-            number: 0,
-            value: 0,
-            answers: 0,
-            walked: 0,
-            fallen: 0,
-            spare: 0,
-            answer: [0; 8],
-            walk: [0; 32],
-            fell: [0; 32],
-        }
-    }
 }
 
 /// Writes a reply for C, with its lists. The fields that do not count for its kind keep their values.
@@ -90,21 +65,15 @@ pub fn write_reply(into: &mut SgtReply, reply: &ShortReply, lists: &ReplyLists)
     }
 }
 
-fn write_record(into: &mut SgtReply, kind: u32, key: Key)
-    ensures { into.new ≡ with_record kind key into.old }
-{
-    into.kind = kind;
-    into.table = key.table() as u32;
-    into.number = key.id();
-}
-
 /// Writes the reply to an access: 8 for a read, 9 for a write.
 fn write_access(into: &mut SgtReply, kind: u32, key: Key, value: Option<i64>)
     requires { (nat_eq kind 8 || nat_eq kind 9) ≡ true }
     ensures reply { HoldsAccess into.new kind key value }
     ensures kept { KeepsOtherFields into.old into.new }
 {
-    write_record(into, kind, key);
+    into.kind = kind;
+    into.table = key.table() as u32;
+    into.number = key.id();
     match value {
         Some(value) => {
             into.found = 1;

@@ -5,7 +5,7 @@ ghost use Rattle.sgt_c.specs.Asked.{IsRecord};
 ghost use Rattle.sgt_c.specs.Rows.{AreCounted, AreWritten, CountsRows, HoldRows, ReturnsRows, row_of, rows_from};
 ghost use Rattle.sgt_c.specs.Handles.{Visits, VisitsIf};
 
-use crate::handle::Handle;
+use crate::handle::{Handle, take_held};
 use crate::requested::keyed;
 use crate::row_struct::SgtRow;
 use crate::status;
@@ -42,12 +42,7 @@ pub extern "C" fn sgt_rows(
     let Some(key) = keyed(table, number) else {
         return status::BAD_CALL;
     };
-    if engine.is_busy() {
-        return status::BUSY;
-    }
-    let Some(mut held) = engine.take(alloc) else {
-        return status::CLOSED;
-    };
+    let mut held = take_held!(alloc, engine);
     let written = write_committed(alloc, &mut held.engine, key, rows);
     engine.put(held);
     match written {
@@ -70,12 +65,7 @@ pub extern "C" fn sgt_records(alloc: Global, engine: &mut Handle, count: &mut u6
     ensures kept { result ≢ 0 → count.new ≡ count.old }
     ensures same { engine.new.slot.held ≡ engine.old.slot.held }
 {
-    if engine.is_busy() {
-        return status::BUSY;
-    }
-    let Some(mut held) = engine.take(alloc) else {
-        return status::CLOSED;
-    };
+    let mut held = take_held!(alloc, engine);
     let counted = count_committed(alloc, &mut held.engine);
     engine.put(held);
     match counted {

@@ -9,7 +9,7 @@ ghost use Rattle.sgt_c.specs.KeptFields.{KeepsOtherFields};
 ghost use Rattle.sgt_c.specs.Runs.{Ran, GaveUp, RunsTo, GivesUp, RunsOnTo, StepsTo, StopsLive, is_access, is_end, is_write};
 ghost use Rattle.sgt_c.specs.Handles.{VisitsIf};
 
-use crate::handle::Handle;
+use crate::handle::{Handle, take_held};
 use crate::held::Held;
 use crate::reply_struct::{SgtReply, write_reply};
 use crate::requested::{arguments, is_call};
@@ -47,12 +47,7 @@ pub extern "C" fn sgt_run(
     if !is_call(procedure, args) {
         return status::BAD_CALL;
     }
-    if engine.is_busy() {
-        return status::BUSY;
-    }
-    let Some(mut held) = engine.take(alloc) else {
-        return status::CLOSED;
-    };
+    let mut held = take_held!(alloc, engine);
     let ran = run_in(&mut held, procedure as u16, arguments(args), tid, reply);
     engine.put(held);
     match ran {

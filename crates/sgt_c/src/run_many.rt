@@ -8,7 +8,7 @@ ghost use Rattle.sgt_c.specs.Runs.{GivesUp};
 ghost use Rattle.sgt_c.specs.Handles.{VisitsIf};
 
 use crate::call_struct::SgtCall;
-use crate::handle::Handle;
+use crate::handle::{Handle, take_held};
 use crate::outcome_struct::{SgtOutcome, write_outcome};
 use crate::requested::arguments;
 use crate::run::run;
@@ -48,12 +48,7 @@ pub extern "C" fn sgt_run_many(
     if !are_runnable(calls) || calls.len() > outcomes.len() {
         return status::BAD_CALL;
     }
-    if engine.is_busy() {
-        return status::BUSY;
-    }
-    let Some(mut held) = engine.take(alloc) else {
-        return status::CLOSED;
-    };
+    let mut held = take_held!(alloc, engine);
     let ran = run_each(&mut held.engine, calls, outcomes);
     let _ = held.engine.history();
     engine.put(held);

@@ -5,7 +5,7 @@ ghost use Rattle.sgt_c.specs.Handles.{Visits};
 ghost use Rattle.sgt_c.specs.ReplayedCalls.{IsLegal, past_at};
 ghost use Rattle.sgt_c.specs.Writes.{any_store, stores_by};
 
-use crate::handle::Handle;
+use crate::handle::{Handle, take_held};
 use crate::status;
 use sgt_log::{EntryRef, History};
 use sgt_model::{Event, ShortReply, Tid};
@@ -25,12 +25,7 @@ pub extern "C" fn sgt_wrote(alloc: Global, engine: &mut Handle, t: u32, wrote: &
     ensures kept { result ≢ 0 → wrote.new ≡ wrote.old }
     ensures same { engine.new.slot.held ≡ engine.old.slot.held }
 {
-    if engine.is_busy() {
-        return status::BUSY;
-    }
-    let Some(held) = engine.take(alloc) else {
-        return status::CLOSED;
-    };
+    let held = take_held!(alloc, engine);
     let found = has_written(held.engine.history(), Tid(t));
     engine.put(held);
     *wrote = u32::from(found);

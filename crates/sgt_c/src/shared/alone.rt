@@ -9,7 +9,7 @@ ghost use Rattle.sgt_c.specs.Decisions.{admission, conflict_in, has_own, solo_in
 ghost use Rattle.sgt_c.specs.Handles.{Visits};
 ghost use Rattle.sgt_c.specs.ReplyStructs.{HoldsReply};
 
-use crate::handle::Handle;
+use crate::handle::{Handle, take_held};
 use crate::reply_struct::SgtReply;
 use crate::shared::waiting::SgtNote;
 use crate::status;
@@ -90,12 +90,7 @@ pub extern "C" fn sgt_desk_admits(
     ensures visits { Visits result engine.old.state engine.old.slot.held engine.new.state }
     ensures same { engine.new.slot.held ≡ engine.old.slot.held }
 {
-    if engine.is_busy() {
-        return status::BUSY;
-    }
-    let Some(held) = engine.take(alloc) else {
-        return status::CLOSED;
-    };
+    let held = take_held!(alloc, engine);
     let live = held.engine.sched().live_count();
     engine.put(held);
     admit(

@@ -1,6 +1,6 @@
 //! The struct of a call under way, for C.
 ghost use Rattle.std.specs.Prelude.{◌≡◌};
-ghost use Rattle.sgt_c.specs.DeskStructs.{IsAsk, ask_in, ask_struct, deadline_in, first_of, kind_of, number_of, reason_in, time_of, turn_of, until_of};
+ghost use Rattle.sgt_c.specs.DeskStructs.{IsAsk, ask_in, deadline_in, deadline_of, reason_in, reason_of};
 
 use sgt_desk::{Ask, Deadline, Reason};
 use sgt_model::{ShortReply, Tid};
@@ -70,80 +70,44 @@ fn read_reason(ask: &SgtAsk) -> Option<Reason>
 
 /// The struct of a call. It has no place for the reply.
 #[inline(always)]
-#[tactic(auto, using(crate::proofs::DeskReadings::ask_back))]
 pub fn ask_struct(ask: &Ask) -> SgtAsk
-    ensures value { result ≡ ask_struct ask.now }
-    ensures back { IsAsk result ask.now }
+    ensures { IsAsk result ask.now }
 {
+    let (until, deadline) = deadline_fields(ask.deadline);
+    let (reason, number, turn, first) = reason_fields(&ask.reason);
     SgtAsk {
-        until: until_of(ask.deadline),
-        reason: kind_of(ask.reason),
-        deadline: time_of(ask.deadline),
-        number: number_of(ask.reason),
-        turn: turn_of(&ask.reason),
-        first: first_of(&ask.reason),
+        until,
+        reason,
+        deadline,
+        number,
+        turn,
+        first,
         is_counted: u32::from(ask.is_counted),
         spare: 0,
     }
 }
 
-fn until_of(deadline: Deadline) -> u32
-    ensures { result ≡ until_of deadline }
+/// The fields `until` and `deadline`.
+fn deadline_fields(deadline: Deadline) -> (u32, u64)
+    ensures { deadline_of result.0 result.1 ≡ deadline }
 {
     match deadline {
-        Deadline::Never => 0,
-        Deadline::AtOnce => 1,
-        Deadline::At(_) => 2,
+        Deadline::Never => (0, 0),
+        Deadline::AtOnce => (1, 0),
+        Deadline::At(at) => (2, at),
     }
 }
 
-fn time_of(deadline: Deadline) -> u64
-    ensures { result ≡ time_of deadline }
-{
-    match deadline {
-        Deadline::Never | Deadline::AtOnce => 0,
-        Deadline::At(at) => at,
-    }
-}
-
-fn kind_of(reason: Option<Reason>) -> u32
-    ensures { result ≡ kind_of reason }
+/// The fields `reason`, `number`, `turn` and `first`.
+fn reason_fields(reason: &Option<Reason>) -> (u32, u64, u32, u32)
+    ensures { reason_of result.0 result.1 result.2 result.3 ≡ reason.now }
 {
     match reason {
-        None => 0,
-        Some(Reason::Turn(_, _)) => 1,
-        Some(Reason::Full(_)) => 2,
-        Some(Reason::End(_)) => 3,
-        Some(Reason::Busy(_)) => 4,
-        Some(Reason::Cut) => 5,
-    }
-}
-
-fn turn_of(reason: &Option<Reason>) -> u32
-    ensures { result ≡ turn_of reason.now }
-{
-    match reason {
-        Some(Reason::Turn(t, _)) => t.0,
-        _ => 0,
-    }
-}
-
-fn first_of(reason: &Option<Reason>) -> u32
-    ensures { result ≡ first_of reason.now }
-{
-    match reason {
-        Some(Reason::Turn(_, first)) => first.0,
-        _ => 0,
-    }
-}
-
-fn number_of(reason: Option<Reason>) -> u64
-    ensures { result ≡ number_of reason }
-{
-    match reason {
-        Some(Reason::Full(count)) => count as u64,
-        Some(Reason::End(ended)) => ended,
-        Some(Reason::Busy(part)) => part,
-        _ => 0,
+        None => (0, 0, 0, 0),
+        Some(Reason::Turn(t, first)) => (1, 0, t.0, first.0),
+        Some(Reason::Full(count)) => (2, *count as u64, 0, 0),
+        Some(Reason::End(ended)) => (3, *ended, 0, 0),
+        Some(Reason::Busy(part)) => (4, *part, 0, 0),
+        Some(Reason::Cut) => (5, 0, 0, 0),
     }
 }

@@ -6,13 +6,12 @@ ghost use Rattle.sgt_c.specs.DeskTurns.{IsRefused, IsTurn, MakesCommit, OfDesks,
 ghost use Rattle.sgt_c.specs.KeptFields.{WritesReply};
 ghost use Rattle.sgt_c.specs.Handles.{Visits};
 
-use crate::handle::Handle;
+use crate::handle::{Handle, take_held};
 use crate::reply_struct::SgtReply;
 use crate::shared::ask_struct::{SgtAsk, ask_struct, read_ask};
 use crate::shared::desk_struct::SgtDesk;
 use crate::shared::lent::{Lent, give_back, lend};
-use crate::shared::turns::{note_wake, report, status_of};
-use crate::status;
+use crate::shared::turns::end_turn;
 use sgt_desk::{Desk, Ticket, commit};
 use sgt_model::Tid;
 use std::alloc::Global;
@@ -41,13 +40,7 @@ pub extern "C" fn sgt_desk_commit(
         × (ask.new ≡ ask.old) × (wakes.new ≡ wakes.old) }
     ensures visits { Visits result engine.old.state engine.old.slot.held engine.new.state }
 {
-    if engine.is_busy() {
-        return status::BUSY;
-    }
-    let Some(held) = engine.take(alloc) else {
-        return status::CLOSED;
-    };
-    let mut lent = lend(held, desk);
+    let mut lent = lend(take_held!(alloc, engine), desk);
     let ticket = Ticket { part, tid: Tid(t) };
     let made = commit_lent(&mut lent, ask, ticket, now, reply, wakes);
     engine.put(give_back(lent, desk));
@@ -73,12 +66,6 @@ fn commit_lent(
     let mut woken = false;
     let made = commit(desk, &mut call, ticket, now, &mut woken);
     *ask = ask_struct(&call);
-    note_wake(wakes, woken);
-    report(
-        reply,
-        &made,
-        &call.reply,
-        desk.engine.held.engine.reply_lists(),
-    );
-    status_of(&made)
+    let lists = desk.engine.held.engine.reply_lists();
+    end_turn(&made, &call.reply, lists, woken, reply, wakes)
 }

@@ -5,7 +5,7 @@ ghost use Rattle.sgt_c.specs.DeskStructs.{ask_in, desk_in, lent_state};
 ghost use Rattle.sgt_c.specs.DeskTurns.{IsRefused, IsTurn, MakesCut, OfDesks, WakesBy, cuts_now};
 ghost use Rattle.sgt_c.specs.Handles.{Visits};
 
-use crate::handle::Handle;
+use crate::handle::{Handle, take_held};
 use crate::held::Held;
 use crate::shared::ask_struct::{SgtAsk, ask_struct, read_ask};
 use crate::shared::desk_struct::SgtDesk;
@@ -33,13 +33,7 @@ pub extern "C" fn sgt_desk_cut(
         × (ask.new ≡ ask.old) × (wakes.new ≡ wakes.old) }
     ensures visits { Visits result engine.old.state engine.old.slot.held engine.new.state }
 {
-    if engine.is_busy() {
-        return status::BUSY;
-    }
-    let Some(held) = engine.take(alloc) else {
-        return status::CLOSED;
-    };
-    let mut lent = lend(held, desk);
+    let mut lent = lend(take_held!(alloc, engine), desk);
     let made = cut_lent(&mut lent, ask, alloc, now, wakes);
     engine.put(give_back(lent, desk));
     made
@@ -83,12 +77,7 @@ pub extern "C" fn sgt_desk_cuts(
     ensures statuses { result ≢ 10 → result ≢ 0 → result ≡ 2 }
     ensures visits { Visits result engine.old.state engine.old.slot.held engine.new.state }
 {
-    if engine.is_busy() {
-        return status::BUSY;
-    }
-    let Some(held) = engine.take(alloc) else {
-        return status::CLOSED;
-    };
+    let held = take_held!(alloc, engine);
     let call = read_ask(ask);
     *cuts = u32::from(!call.saw_cut(held.part) && !is_busy(&held, desk));
     engine.put(held);

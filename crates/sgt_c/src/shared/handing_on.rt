@@ -6,7 +6,7 @@ ghost use Rattle.sgt_c.specs.ReplayedCalls.{ArePassed};
 ghost use Rattle.sgt_c.specs.Handles.{Visits};
 
 use crate::call_struct::SgtCall;
-use crate::handle::Handle;
+use crate::handle::{Handle, take_held};
 use crate::held::Held;
 use crate::replayed_calls::{Passed, pass};
 use crate::status;
@@ -44,12 +44,7 @@ pub extern "C" fn sgt_desk_hand_on(
     ensures statuses { result ≢ 10 → result ≢ 0 → result ≢ 2 → result ≡ 4 }
     ensures same { engine.new.slot.held ≡ engine.old.slot.held }
 {
-    if engine.is_busy() {
-        return status::BUSY;
-    }
-    let Some(held) = engine.take(alloc) else {
-        return status::CLOSED;
-    };
+    let held = take_held!(alloc, engine);
     let handed = hand_on(&held, feed, call, number);
     engine.put(held);
     handed

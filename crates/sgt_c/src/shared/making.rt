@@ -6,12 +6,12 @@ ghost use Rattle.sgt_c.specs.DeskTurns.{IsRefused, IsRunnable, IsTurn, Makes, Of
 ghost use Rattle.sgt_c.specs.KeptFields.{WritesReply};
 ghost use Rattle.sgt_c.specs.Handles.{VisitsIf};
 
-use crate::handle::Handle;
+use crate::handle::{Handle, take_held};
 use crate::reply_struct::SgtReply;
 use crate::requested::keyed;
 use crate::shared::desk_struct::SgtDesk;
 use crate::shared::lent::{Lent, give_back, lend};
-use crate::shared::turns::{note_wake, report, status_of};
+use crate::shared::turns::end_turn;
 use crate::status;
 use sgt_desk::{Asked, Desk, Ticket, make};
 use sgt_model::{Key, Request, ShortReply, Tid};
@@ -47,13 +47,7 @@ pub extern "C" fn sgt_desk_make(
     let Some(requested) = asked_of(kind, table, number, value) else {
         return status::BAD_CALL;
     };
-    if engine.is_busy() {
-        return status::BUSY;
-    }
-    let Some(held) = engine.take(alloc) else {
-        return status::CLOSED;
-    };
-    let mut lent = lend(held, desk);
+    let mut lent = lend(take_held!(alloc, engine), desk);
     let ticket = Ticket { part, tid: Tid(t) };
     let made = make_lent(&mut lent, ticket, requested, reply, wakes);
     engine.put(give_back(lent, desk));
@@ -107,7 +101,6 @@ fn make_lent(
     let mut short = ShortReply::Unknown;
     let mut woken = false;
     let made = make(desk, ticket, requested, &mut short, &mut woken);
-    note_wake(wakes, woken);
-    report(reply, &made, &short, desk.engine.held.engine.reply_lists());
-    status_of(&made)
+    let lists = desk.engine.held.engine.reply_lists();
+    end_turn(&made, &short, lists, woken, reply, wakes)
 }

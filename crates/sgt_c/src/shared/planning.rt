@@ -6,7 +6,7 @@ ghost use Rattle.sgt_c.specs.DeskStructs.{desk_in};
 ghost use Rattle.sgt_c.specs.Decisions.{MakesPlan, plan_in, planned_status};
 ghost use Rattle.sgt_c.specs.Handles.{Visits};
 
-use crate::handle::Handle;
+use crate::handle::{Handle, take_held};
 use crate::shared::cutting::is_busy;
 use crate::shared::desk_struct::SgtDesk;
 use crate::shared::turns::note_wake;
@@ -50,12 +50,7 @@ pub extern "C" fn sgt_desk_plan(
     ensures visits { Visits result engine.old.state engine.old.slot.held engine.new.state }
     ensures same { engine.new.slot.held ≡ engine.old.slot.held }
 {
-    if engine.is_busy() {
-        return status::BUSY;
-    }
-    let Some(held) = engine.take(alloc) else {
-        return status::CLOSED;
-    };
+    let held = take_held!(alloc, engine);
     let entries = held.engine.history().len() as u64;
     let is_busy = is_busy(&held, desk);
     engine.put(held);
@@ -95,12 +90,7 @@ pub extern "C" fn sgt_desk_put_off(
     ensures visits { Visits result engine.old.state engine.old.slot.held engine.new.state }
     ensures same { engine.new.slot.held ≡ engine.old.slot.held }
 {
-    if engine.is_busy() {
-        return status::BUSY;
-    }
-    let Some(held) = engine.take(alloc) else {
-        return status::CLOSED;
-    };
+    let held = take_held!(alloc, engine);
     let entries = held.engine.history().len() as u64;
     engine.put(held);
     put_off(plan, entries);

@@ -1,6 +1,6 @@
 //! The struct of a run under way, for C.
-ghost use Rattle.std.specs.Prelude.{◌≡◌, ℕ, Option};
-ghost use Rattle.sgt_c.specs.DeskStructs.{IsRun, has_ticket, has_tid, part_of, run_in, run_struct, tid_of, tid_or_0};
+ghost use Rattle.std.specs.Prelude.{◌≡◌};
+ghost use Rattle.sgt_c.specs.DeskStructs.{IsRun, run_in};
 
 use crate::shared::ask_struct::{SgtAsk, ask_struct, read_ask};
 use sgt_desk::{Run, Ticket};
@@ -51,64 +51,21 @@ pub fn read_run(run: &SgtRun) -> Run
 
 /// The struct of a run. It has no place for the reply.
 #[inline(always)]
-#[tactic(auto, using(crate::proofs::DeskReadings::run_back))]
 pub fn run_struct(run: &Run) -> SgtRun
-    ensures value { result ≡ run_struct run.now }
-    ensures back { IsRun result run.now }
+    ensures { IsRun result run.now }
 {
+    let newest = run.ticket.unwrap_or(Ticket {
+        part: 0,
+        tid: Tid(0),
+    });
     SgtRun {
         ask: ask_struct(&run.ask),
         tries: run.tries,
         most: run.most,
-        part: part_of(&run.ticket),
-        tid: tid_of(&run.ticket),
-        has_ticket: has_ticket(&run.ticket),
-        attempt: tid_or_0(&run.attempt),
-        has_attempt: has_tid(&run.attempt),
-    }
-}
-
-fn part_of(ticket: &Option<Ticket>) -> u64
-    ensures { result ≡ part_of ticket.now }
-{
-    match ticket {
-        None => 0,
-        Some(ticket) => ticket.part,
-    }
-}
-
-fn tid_of(ticket: &Option<Ticket>) -> u32
-    ensures { result ≡ tid_of ticket.now }
-{
-    match ticket {
-        None => 0,
-        Some(ticket) => ticket.tid.0,
-    }
-}
-
-fn has_ticket(ticket: &Option<Ticket>) -> u32
-    ensures { result ≡ has_ticket ticket.now }
-{
-    match ticket {
-        None => 0,
-        Some(_) => 1,
-    }
-}
-
-fn tid_or_0(t: &Option<Tid>) -> u32
-    ensures { result ≡ tid_or_0 t.now }
-{
-    match t {
-        None => 0,
-        Some(t) => t.0,
-    }
-}
-
-fn has_tid(t: &Option<Tid>) -> u32
-    ensures { result ≡ has_tid t.now }
-{
-    match t {
-        None => 0,
-        Some(_) => 1,
+        part: newest.part,
+        tid: newest.tid.0,
+        has_ticket: u32::from(run.ticket.is_some()),
+        attempt: run.attempt.unwrap_or(Tid(0)).0,
+        has_attempt: u32::from(run.attempt.is_some()),
     }
 }

@@ -7,13 +7,13 @@ ghost use Rattle.sgt_c.specs.DeskTurns.{IsRefused, IsTurn, MakesRun, OfDesks, Re
 ghost use Rattle.sgt_c.specs.KeptFields.{WritesReply};
 ghost use Rattle.sgt_c.specs.Handles.{VisitsIf};
 
-use crate::handle::Handle;
+use crate::handle::{Handle, take_held};
 use crate::reply_struct::SgtReply;
 use crate::requested::{arguments, is_call};
 use crate::shared::desk_struct::SgtDesk;
 use crate::shared::lent::{Lent, give_back, lend};
 use crate::shared::run_struct::{SgtRun, read_run, run_struct};
-use crate::shared::turns::{note_wake, report, status_of};
+use crate::shared::turns::end_turn;
 use crate::status;
 use sgt_desk::{Desk, run_procedure};
 use sgt_model::Args;
@@ -48,13 +48,7 @@ pub extern "C" fn sgt_desk_run(
     if !is_call(procedure, args) {
         return status::BAD_CALL;
     }
-    if engine.is_busy() {
-        return status::BUSY;
-    }
-    let Some(held) = engine.take(alloc) else {
-        return status::CLOSED;
-    };
-    let mut lent = lend(held, desk);
+    let mut lent = lend(take_held!(alloc, engine), desk);
     let args = arguments(args);
     let made = run_lent(&mut lent, run, procedure as u16, &args, now, reply, wakes);
     engine.put(give_back(lent, desk));
@@ -81,12 +75,6 @@ fn run_lent(
     let mut woken = false;
     let made = run_procedure(desk, &mut call, procedure, args, now, &mut woken);
     *run = run_struct(&call);
-    note_wake(wakes, woken);
-    report(
-        reply,
-        &made,
-        &call.ask.reply,
-        desk.engine.held.engine.reply_lists(),
-    );
-    status_of(&made)
+    let lists = desk.engine.held.engine.reply_lists();
+    end_turn(&made, &call.ask.reply, lists, woken, reply, wakes)
 }

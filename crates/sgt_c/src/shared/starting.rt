@@ -7,13 +7,13 @@ ghost use Rattle.sgt_c.specs.DeskTurns.{IsRefused, IsTurn, MakesStart, OfDesks, 
 ghost use Rattle.sgt_c.specs.KeptFields.{WritesReply};
 ghost use Rattle.sgt_c.specs.Handles.{VisitsIf};
 
-use crate::handle::Handle;
+use crate::handle::{Handle, take_held};
 use crate::reply_struct::SgtReply;
 use crate::requested::{arguments, is_call};
 use crate::shared::ask_struct::{SgtAsk, ask_struct, read_ask};
 use crate::shared::desk_struct::SgtDesk;
 use crate::shared::lent::{Lent, give_back, lend};
-use crate::shared::turns::{note_wake, report, status_of};
+use crate::shared::turns::end_turn;
 use crate::status;
 use sgt_desk::{Desk, start};
 use sgt_model::Args;
@@ -47,13 +47,7 @@ pub extern "C" fn sgt_desk_start(
     if !is_call(procedure, args) {
         return status::BAD_CALL;
     }
-    if engine.is_busy() {
-        return status::BUSY;
-    }
-    let Some(held) = engine.take(alloc) else {
-        return status::CLOSED;
-    };
-    let mut lent = lend(held, desk);
+    let mut lent = lend(take_held!(alloc, engine), desk);
     let args = arguments(args);
     let made = start_lent(&mut lent, ask, procedure as u16, &args, now, reply, wakes);
     engine.put(give_back(lent, desk));
@@ -80,12 +74,6 @@ fn start_lent(
     let mut woken = false;
     let made = start(desk, &mut call, procedure, args, now, &mut woken);
     *ask = ask_struct(&call);
-    note_wake(wakes, woken);
-    report(
-        reply,
-        &made,
-        &call.reply,
-        desk.engine.held.engine.reply_lists(),
-    );
-    status_of(&made)
+    let lists = desk.engine.held.engine.reply_lists();
+    end_turn(&made, &call.reply, lists, woken, reply, wakes)
 }

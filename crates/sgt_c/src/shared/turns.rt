@@ -34,20 +34,26 @@ pub fn note_wake(wakes: &mut u32, woken: bool)
     }
 }
 
-/// Writes the reply of a call, if it is done.
+/// Notes that all that rest are to be woken, if so; writes the reply of a call, if it is done; and returns the number of what comes next.
 #[inline(always)]
-pub fn report(
-    into: &mut SgtReply,
+pub fn end_turn(
     turn: &Result<Turn, NoMemory>,
     short: &ShortReply,
     lists: &ReplyLists,
-)
+    woken: bool,
+    into: &mut SgtReply,
+    wakes: &mut u32,
+) -> u32
+    ensures next { result ≡ status_of turn.now }
     ensures reported { turn.now ≡ Ok Turn.Done → HoldsReply into.new (reply_with short.now lists.now) }
     ensures kept { turn.now ≡ Ok Turn.Done → KeepsOtherFields into.old into.new }
     ensures unwritten { turn.now ≢ Ok Turn.Done → into.new ≡ into.old }
+    ensures woken { nat_eq wakes.new 1 ≡ (woken || nat_eq wakes.old 1) }
 {
     match turn {
         Ok(Turn::Done) => write_reply(into, short, lists),
         _ => (),
     }
+    note_wake(wakes, woken);
+    status_of(turn)
 }
