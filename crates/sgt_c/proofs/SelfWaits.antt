@@ -1,11 +1,11 @@
 -- How the largest deadlock is found: what is not held up is taken out, one after another.
-use Rattle.std.proofs.Common.{◌≡◌, ◌≢◌, ◌⊎◌, inl, inr, ℕ, zero, suc, pos, ◌+◌, ◌<◌, ◌≤◌, Bool, ◌&&◌, true, false, List, [], ◌∷◌, Some, length, get_or, take, replicate, nat_lt, refl, sym, subst, ◌∙◌, arith}
+use Rattle.std.proofs.Common.{◌≡◌, inl, inr, ℕ, zero, suc, pos, ◌+◌, ◌<◌, Bool, ◌&&◌, true, false, List, [], ◌∷◌, Some, length, get_or, take, replicate, nat_lt, refl, sym, subst, ◌∙◌, arith}
 use Rattle.std.specs.Prelude.{slice_get, slice_set}
 use Rattle.std.proofs.lemmas.Bool.{cases_eq, ltb-true, ltb-false}
 use Rattle.std.proofs.lemmas.Option.{get_or_from_slice_get}
 use Rattle.std.proofs.lemmas.Grind.{common_steps}
 use Rattle.sgt_c.specs.declared.shared.waiting.SgtNote.{SgtNote}
-use Rattle.sgt_c.specs.SelfWaits.{AreAll, Concerns, IsAmong, IsDeadlock, IsFree, IsHeldUp, IsWithin, WaitsForItself, count_in}
+use Rattle.sgt_c.specs.SelfWaits.{AreAll, Concerns, IsDeadlock, IsFree, IsHeldUp, IsWithin, WaitsForItself, count_in}
 
 -- a larger set holds up what a smaller one does
 held_more : (notes : List SgtNote) (cuts : Bool) (d s : List Bool) (n : SgtNote) → length d ≡ length s → IsWithin d s

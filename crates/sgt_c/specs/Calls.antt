@@ -6,7 +6,7 @@ use Rattle.sgt_model.specs.declared.reply.Reply.{Reply}
 use Rattle.sgt_model.specs.Fates.{live}
 use Rattle.sgt_model.specs.Legality.{LegalReply}
 use Rattle.sgt_model.specs.Questions.{is_ending}
-use Rattle.sgt_engine.specs.EngineView.{EngineView, configuration_of, with_entry}
+use Rattle.sgt_engine.specs.EngineView.{configuration_of, with_entry}
 use Rattle.sgt_engine.specs.Guarantees.{Guarantees}
 use Rattle.sgt_c.specs.declared.held.Held.{Held}
 use Rattle.sgt_c.specs.declared.reply_struct.SgtReply.{SgtReply}

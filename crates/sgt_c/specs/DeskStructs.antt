@@ -1,5 +1,5 @@
 -- What the structs of a desk and of its calls say.
-use Rattle.std.specs.Prelude.{◌≡◌, ℕ, ℤ, Bool, nat_eq, slice_get, List, [], ◌∷◌, Option, Some, None, cond, option_map}
+use Rattle.std.specs.Prelude.{◌≡◌, ℕ, ℤ, nat_eq, Option, Some, None, cond}
 use Rattle.sgt_model.specs.Contents.{Key}
 use Rattle.sgt_model.specs.declared.event.Request.TheVariants.{Read, Write}
 use Rattle.sgt_model.specs.declared.short_reply.ShortReply.{ShortReply}
@@ -8,7 +8,6 @@ use Rattle.sgt_engine.specs.EngineView.{configuration_of}
 use Rattle.sgt_desk.specs.declared.ask.Ask.{Ask}
 use Rattle.sgt_desk.specs.declared.ask.Deadline.{Deadline}
 use Rattle.sgt_desk.specs.declared.ask.Deadline.TheVariants.{Never, AtOnce, At}
-use Rattle.sgt_desk.specs.declared.ask.Ticket.{Ticket}
 use Rattle.sgt_desk.specs.declared.making.Asked.{Asked}
 use Rattle.sgt_desk.specs.declared.making.Asked.TheVariants.{Step, Access, Quit}
 use Rattle.sgt_desk.specs.declared.reason.Reason.{Reason}

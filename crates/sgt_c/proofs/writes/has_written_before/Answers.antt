@@ -1,4 +1,4 @@
-use Rattle.std.proofs.Common.{◌-◌, ◌∙◌, rules, sym}
+use Rattle.std.proofs.Common.{◌∙◌, rules, sym}
 use Rattle.sgt_c.proofs.WritesSoFar.{writes_before, writes_from_start, writes_here}
 use Rattle.sgt_c.proofs.writes.has_written_before.Goals as goal
 
