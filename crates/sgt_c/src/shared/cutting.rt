@@ -1,7 +1,7 @@
 //! Turns of a cut, for C.
 ghost use Rattle.std.specs.Prelude.{◌≡◌, ◌≢◌, ◌<◌, cond, nat_eq, IfSome};
-ghost use Rattle.sgt_desk.specs.Desks.{state, is_busy, without_call};
-ghost use Rattle.sgt_c.specs.DeskStructs.{ask_in, desk_in, lent_state};
+ghost use Rattle.sgt_desk.specs.Desks.{is_busy, without_call};
+ghost use Rattle.sgt_c.specs.DeskStructs.{ask_in, desk_in};
 ghost use Rattle.sgt_c.specs.DeskTurns.{IsRefused, IsTurn, MakesCut, OfDesks, WakesBy, cuts_now};
 ghost use Rattle.sgt_c.specs.Handles.{Visits};
 
@@ -9,10 +9,10 @@ use crate::handle::{Handle, take_held};
 use crate::held::Held;
 use crate::shared::ask_struct::{SgtAsk, ask_struct, read_ask};
 use crate::shared::desk_struct::SgtDesk;
-use crate::shared::lent::{Lent, give_back, lend};
+use crate::shared::lent::{give_back, lend};
 use crate::shared::turns::{note_wake, status_of};
 use crate::status;
-use sgt_desk::{Desk, cut};
+use sgt_desk::cut;
 use std::alloc::Global;
 
 /// A turn of a cut.
@@ -34,28 +34,12 @@ pub extern "C" fn sgt_desk_cut(
     ensures visits { Visits result engine.old.state engine.old.slot.held engine.new.state }
 {
     let mut lent = lend(take_held!(alloc, engine), desk);
-    let made = cut_lent(&mut lent, ask, alloc, now, wakes);
-    engine.put(give_back(lent, desk));
-    made
-}
-
-/// The same for a desk.
-fn cut_lent(
-    desk: &mut Desk<Lent>,
-    ask: &mut SgtAsk,
-    alloc: Global,
-    now: u64,
-    wakes: &mut u32,
-) -> u32
-    ensures turn { MakesCut now result ask.old ask.new (state lent_state desk.old) (state lent_state desk.new) }
-    ensures wakes { WakesBy wakes.new (state lent_state desk.old) (state lent_state desk.new) }
-    ensures turns { IsTurn result }
-{
     let mut call = read_ask(ask);
     let mut woken = false;
-    let made = cut(desk, &mut call, alloc, now, &mut woken);
+    let made = cut(&mut lent, &mut call, alloc, now, &mut woken);
     *ask = ask_struct(&call);
     note_wake(wakes, woken);
+    engine.put(give_back(lent, desk));
     status_of(&made)
 }
 

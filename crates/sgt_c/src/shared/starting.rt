@@ -1,8 +1,6 @@
 //! Turns of a start, for C.
 ghost use Rattle.std.specs.Prelude.{◌≡◌};
-ghost use Rattle.sgt_desk.specs.Desks.{state};
 ghost use Rattle.sgt_c.specs.Asked.{IsCall};
-ghost use Rattle.sgt_c.specs.DeskStructs.{lent_state};
 ghost use Rattle.sgt_c.specs.DeskTurns.{IsRefused, IsTurn, MakesStart, OfDesks, Reports, WakesBy};
 ghost use Rattle.sgt_c.specs.KeptFields.{WritesReply};
 ghost use Rattle.sgt_c.specs.Handles.{VisitsIf};
@@ -12,11 +10,10 @@ use crate::reply_struct::SgtReply;
 use crate::requested::{arguments, is_call};
 use crate::shared::ask_struct::{SgtAsk, ask_struct, read_ask};
 use crate::shared::desk_struct::SgtDesk;
-use crate::shared::lent::{Lent, give_back, lend};
+use crate::shared::lent::{give_back, lend};
 use crate::shared::turns::end_turn;
 use crate::status;
-use sgt_desk::{Desk, start};
-use sgt_model::Args;
+use sgt_desk::start;
 use std::alloc::Global;
 
 /// A turn of a start of the procedure with this number and these arguments. The reply is written if it is done.
@@ -49,31 +46,19 @@ pub extern "C" fn sgt_desk_start(
     }
     let mut lent = lend(take_held!(alloc, engine), desk);
     let args = arguments(args);
-    let made = start_lent(&mut lent, ask, procedure as u16, &args, now, reply, wakes);
-    engine.put(give_back(lent, desk));
-    made
-}
-
-/// The same for a desk.
-fn start_lent(
-    desk: &mut Desk<Lent>,
-    ask: &mut SgtAsk,
-    procedure: u16,
-    args: &Args,
-    now: u64,
-    reply: &mut SgtReply,
-    wakes: &mut u32,
-) -> u32
-    ensures turn { MakesStart procedure args.now now result ask.old ask.new (state lent_state desk.old) (state lent_state desk.new) }
-    ensures reported { result ≡ 0 → Reports reply.new (state lent_state desk.old) (state lent_state desk.new) }
-    ensures wakes { WakesBy wakes.new (state lent_state desk.old) (state lent_state desk.new) }
-    ensures writes { WritesReply result reply.old reply.new }
-    ensures turns { IsTurn result }
-{
     let mut call = read_ask(ask);
     let mut woken = false;
-    let made = start(desk, &mut call, procedure, args, now, &mut woken);
+    let made = start(
+        &mut lent,
+        &mut call,
+        procedure as u16,
+        &args,
+        now,
+        &mut woken,
+    );
     *ask = ask_struct(&call);
-    let lists = desk.engine.held.engine.reply_lists();
-    end_turn(&made, &call.reply, lists, woken, reply, wakes)
+    let lists = lent.engine.held.engine.reply_lists();
+    let next = end_turn(&made, &call.reply, lists, woken, reply, wakes);
+    engine.put(give_back(lent, desk));
+    next
 }

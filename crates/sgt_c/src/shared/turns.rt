@@ -1,7 +1,7 @@
 //! Numbers for turns.
 ghost use Rattle.std.specs.Prelude.{◌≡◌, ◌≢◌, ◌||◌, true, nat_eq, Ok};
 ghost use Rattle.sgt_model.specs.ShortReplies.{reply_with};
-ghost use Rattle.sgt_c.specs.DeskTurns.{status_of};
+ghost use Rattle.sgt_c.specs.DeskTurns.{IsTurn, status_of};
 ghost use Rattle.sgt_c.specs.KeptFields.{KeepsOtherFields};
 ghost use Rattle.sgt_c.specs.ReplyStructs.{HoldsReply};
 
@@ -12,7 +12,8 @@ use sgt_model::{NoMemory, ReplyLists, ShortReply};
 
 /// The number of what comes next.
 pub fn status_of(turn: &Result<Turn, NoMemory>) -> u32
-    ensures { result ≡ status_of turn.now }
+    ensures number { result ≡ status_of turn.now }
+    ensures turns { IsTurn result }
 {
     match turn {
         Ok(Turn::Done) => status::OK,
@@ -45,6 +46,7 @@ pub fn end_turn(
     wakes: &mut u32,
 ) -> u32
     ensures next { result ≡ status_of turn.now }
+    ensures turns { IsTurn result }
     ensures reported { turn.now ≡ Ok Turn.Done → HoldsReply into.new (reply_with short.now lists.now) }
     ensures kept { turn.now ≡ Ok Turn.Done → KeepsOtherFields into.old into.new }
     ensures unwritten { turn.now ≢ Ok Turn.Done → into.new ≡ into.old }
