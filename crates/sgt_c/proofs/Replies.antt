@@ -22,21 +22,9 @@ whole_fate (fate.Fell t) = refl
 
 -- a reply is its short form with its lists
 pub whole : (r : Reply) → full_reply (short_reply r) (answers_in r) (cycle_of_reply r) (fell_in r) ≡ r
-whole (reply.Started t) = refl
-whole reply.NoProcedure = refl
-whole reply.BadArgs = refl
-whole reply.Spent = refl
-whole reply.Full = refl
-whole reply.Unknown = refl
 whole (reply.Over f) = ap reply.Over (whole_fate f)
-whole (reply.Looked k v) = refl
-whole (reply.Wrote k v) = refl
-whole reply.Ended = refl
-whole reply.NotEnded = refl
-whole (reply.Waits t) = refl
-whole (reply.Committed answers) = refl
 whole (reply.Aborted c fell) = ap (λ c. reply.Aborted c fell) (whole_cause c)
-whole (reply.Refused code fell) = refl
+whole _ = refl
 
 -- a reply whose short form starts a transaction
 pub started_in_short : (r : Reply) (t : ℕ) → short_reply r ≡ bare.Started t → r ≡ reply.Started t
@@ -45,17 +33,4 @@ started_in_short r t is = sym (whole r) ∙ ap (λ s. full_reply s (answers_in r
 -- whether a reply starts a transaction does not depend on its lists
 pub start_without : (r : Reply) → is_start r ≡ is_start (full_reply (short_reply r) [] [] [])
 start_without (reply.Started t) = refl
-start_without reply.NoProcedure = refl
-start_without reply.BadArgs = refl
-start_without reply.Spent = refl
-start_without reply.Full = refl
-start_without reply.Unknown = refl
-start_without (reply.Over f) = refl
-start_without (reply.Looked k v) = refl
-start_without (reply.Wrote k v) = refl
-start_without reply.Ended = refl
-start_without reply.NotEnded = refl
-start_without (reply.Waits t) = refl
-start_without (reply.Committed answers) = refl
-start_without (reply.Aborted c fell) = refl
-start_without (reply.Refused code fell) = refl
+start_without _ = refl
