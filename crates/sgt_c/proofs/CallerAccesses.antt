@@ -134,19 +134,7 @@ ended_at s past event r t k legal is = elim (commits_or_not (effect s past event
     neither : (r : Reply) → ends_by event r ≡ (t, k) ∷ [] → reported_in r ≡ [] → ⊥
     neither (reply.Committed answers) a b = cc b
     neither (reply.Refused code fell) a b = cc b
-    neither (reply.Started u) a b = cc a
-    neither reply.NoProcedure a b = cc a
-    neither reply.BadArgs a b = cc a
-    neither reply.Spent a b = cc a
-    neither reply.Full a b = cc a
-    neither reply.Unknown a b = cc a
-    neither (reply.Over f) a b = cc a
-    neither (reply.Looked key v) a b = cc a
-    neither (reply.Wrote key v) a b = cc a
-    neither reply.Ended a b = cc a
-    neither reply.NotEnded a b = cc a
-    neither (reply.Waits u) a b = cc a
-    neither (reply.Aborted why fell) a b = cc a
+    neither _ a b = cc a
 
 -- so the accesses of a transaction that an entry commits or refuses are those before this entry
 pub kept_from_end : (s : Configuration) (entries : List Entry) (place t k : ℕ) (e : Entry) → Legal s (reverse entries)

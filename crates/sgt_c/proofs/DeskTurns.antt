@@ -23,11 +23,7 @@ use Rattle.sgt_c.specs.ReplyStructs.{HoldsReply}
 -- the status 0 is that of a call that is done
 pub done_of : (m : Result Turn NoMemory) (status : ℕ) → status ≡ status_of m → status ≡ 0 → m ≡ Ok Done
 done_of (Ok Done) status is e = refl
-done_of (Ok Rest) status is e = absurd (cc (sym is ∙ e))
-done_of (Ok Late) status is e = absurd (cc (sym is ∙ e))
-done_of (Ok Again) status is e = absurd (cc (sym is ∙ e))
-done_of (Ok Stale) status is e = absurd (cc (sym is ∙ e))
-done_of (Err x) status is e = absurd (cc (sym is ∙ e))
+done_of _ status is e = absurd (cc (sym is ∙ e))
 
 pub reports_outcome : (short : ShortReply) (ticket : Option ℕ) (past : List Entry) (lists : ReplyLists) (reported : SgtReply)
     → IsOutcome short ticket past → HasLists past lists → HoldsReply reported (reply_with short lists) → ReportsNewest reported past

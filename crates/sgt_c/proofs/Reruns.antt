@@ -100,18 +100,7 @@ ends_else : (r : Reply) → is_access (short_reply r) ≡ false → is_end (shor
 ends_else (reply.Looked k v) a b so = absurd cc
 ends_else (reply.Wrote k v) a b so = absurd cc
 ends_else reply.Ended a b so = absurd cc
-ends_else (reply.Started t) a b so = so
-ends_else reply.NoProcedure a b so = so
-ends_else reply.BadArgs a b so = so
-ends_else reply.Spent a b so = so
-ends_else reply.Full a b so = so
-ends_else reply.Unknown a b so = so
-ends_else (reply.Over f) a b so = so
-ends_else reply.NotEnded a b so = so
-ends_else (reply.Waits u) a b so = so
-ends_else (reply.Committed answers) a b so = so
-ends_else (reply.Aborted why fell) a b so = so
-ends_else (reply.Refused code fell) a b so = so
+ends_else _ a b so = so
 
 -- ---- one call
 

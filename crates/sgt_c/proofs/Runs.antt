@@ -72,36 +72,11 @@ module _ (past : List Entry) (t : ℕ) where
   pub access_live : (r : Reply) → is_access (short_reply r) ≡ true → live (record { event = Step t; reply = r } ∷ past) t ≡ live past t
   access_live (reply.Looked k v) a = refl
   access_live (reply.Wrote k v) a = refl
-  access_live (reply.Started u) a = absurd cc
-  access_live reply.NoProcedure a = absurd cc
-  access_live reply.BadArgs a = absurd cc
-  access_live reply.Spent a = absurd cc
-  access_live reply.Full a = absurd cc
-  access_live reply.Unknown a = absurd cc
-  access_live (reply.Over fate) a = absurd cc
-  access_live reply.Ended a = absurd cc
-  access_live reply.NotEnded a = absurd cc
-  access_live (reply.Waits u) a = absurd cc
-  access_live (reply.Committed answers) a = absurd cc
-  access_live (reply.Aborted why fell) a = absurd cc
-  access_live (reply.Refused code fell) a = absurd cc
+  access_live _ a = absurd cc
 
   pub end_live : (r : Reply) → is_end (short_reply r) ≡ true → live (record { event = Step t; reply = r } ∷ past) t ≡ live past t
-  end_live (reply.Looked k v) a = absurd cc
-  end_live (reply.Wrote k v) a = absurd cc
-  end_live (reply.Started u) a = absurd cc
-  end_live reply.NoProcedure a = absurd cc
-  end_live reply.BadArgs a = absurd cc
-  end_live reply.Spent a = absurd cc
-  end_live reply.Full a = absurd cc
-  end_live reply.Unknown a = absurd cc
-  end_live (reply.Over fate) a = absurd cc
   end_live reply.Ended a = refl
-  end_live reply.NotEnded a = absurd cc
-  end_live (reply.Waits u) a = absurd cc
-  end_live (reply.Committed answers) a = absurd cc
-  end_live (reply.Aborted why fell) a = absurd cc
-  end_live (reply.Refused code fell) a = absurd cc
+  end_live _ a = absurd cc
 
 -- ---- which steps were made
 

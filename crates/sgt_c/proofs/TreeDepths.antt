@@ -16,19 +16,11 @@ use Rattle.sgt_format.proofs.Views.{tree_of_read}
 
 whole_flat : (tree : Data) (z : ℤ) → whole tree ≡ Some z → depth tree ≡ 0
 whole_flat (number n) z e = refl
-whole_flat null z e = absurd cc
-whole_flat (boolean b) z e = absurd cc
-whole_flat (string s) z e = absurd cc
-whole_flat (array items) z e = absurd cc
-whole_flat (object ms) z e = absurd cc
+whole_flat _ z e = absurd cc
 
 natural_flat : (bits n : ℕ) (tree : Data) → option_and_then (natural bits) (whole tree) ≡ Some n → depth tree ≡ 0
 natural_flat bits n (number x) e = refl
-natural_flat bits n null e = absurd cc
-natural_flat bits n (boolean b) e = absurd cc
-natural_flat bits n (string s) e = absurd cc
-natural_flat bits n (array items) e = absurd cc
-natural_flat bits n (object ms) e = absurd cc
+natural_flat bits n _ e = absurd cc
 
 -- trees of each of these shapes have at most this depth
 abbrev Bounded : ℕ → List Shape → Type 0
@@ -43,17 +35,7 @@ each_depth n (shape ∷ shapes) b (item tree items) e = omega (arith, b.0 tree e
 
 row_depth : (word : List ℕ) (shapes : List Shape) (n : ℕ) → Bounded n shapes → (tree : Data) → WordAnd word shapes tree → depth tree ≤ n + 1
 row_depth word shapes n b (array (item (string w) items)) e = omega (arith, each_depth n shapes b items e.1)
-row_depth word shapes n b null e = absurd e
-row_depth word shapes n b (boolean x) e = absurd e
-row_depth word shapes n b (number x) e = absurd e
-row_depth word shapes n b (string s) e = absurd e
-row_depth word shapes n b (object ms) e = absurd e
-row_depth word shapes n b (array no_items) e = absurd e
-row_depth word shapes n b (array (item null items)) e = absurd e
-row_depth word shapes n b (array (item (boolean x) items)) e = absurd e
-row_depth word shapes n b (array (item (number x) items)) e = absurd e
-row_depth word shapes n b (array (item (array x) items)) e = absurd e
-row_depth word shapes n b (array (item (object x) items)) e = absurd e
+row_depth word shapes n b _ e = absurd e
 
 byte_depth : (n m : ℕ) (tree : Data) → Byte n tree → depth tree ≤ m
 byte_depth n m tree e = omega (arith, natural_flat 8 n tree e)
@@ -103,11 +85,7 @@ first_depth n shape rest here following (item tree items) e = omega (arith, here
 listed_depth : (n : ℕ) (so : Items → Type 0) → ((items : Items) → so items → items_depth items ≤ n) → (tree : Data) → Listed so tree
     → depth tree ≤ n + 1
 listed_depth n so each (array items) e = omega (arith, each items e)
-listed_depth n so each null e = absurd e
-listed_depth n so each (boolean b) e = absurd e
-listed_depth n so each (number x) e = absurd e
-listed_depth n so each (string s) e = absurd e
-listed_depth n so each (object ms) e = absurd e
+listed_depth n so each _ e = absurd e
 
 block_items : (b : Block) (items : Items) → SpellsBlock b items → items_depth items ≤ most_deep b
 block_items empty no_items e = omega arith
