@@ -1,6 +1,6 @@
 -- The newest reply is what a turn that is done returns.
 use Rattle.std.proofs.Common.{◌≡◌, ◌≢◌, ◌↔◌, ◌⊎◌, inl, inr, ℕ, ℤ, pos, ◌≤◌, Bool, true, false, nat_eq, cond, List, [], ◌∷◌, Option, Some, None, refl, sym, ap, subst, ◌∙◌}
-use Rattle.std.specs.Prelude.{Result, Ok, Err, IsSome, IsNone}
+use Rattle.std.specs.Prelude.{Result, Ok, IsSome, IsNone}
 use Rattle.sgt_model.specs.Contents.{Key}
 use Rattle.sgt_model.specs.declared.event.Request.TheVariants.{Read, Write}
 use Rattle.sgt_model.specs.Numbers.{IsValue}
@@ -11,7 +11,7 @@ use Rattle.sgt_model.specs.declared.short_reply.ShortReply.{ShortReply}
 use Rattle.sgt_model.specs.ShortReplies.{reply_with}
 use Rattle.sgt_engine.specs.EngineView.{HasLists}
 use Rattle.sgt_desk.specs.declared.ask.Turn.{Turn}
-use Rattle.sgt_desk.specs.declared.ask.Turn.TheVariants.{Done, Rest, Late, Again, Stale}
+use Rattle.sgt_desk.specs.declared.ask.Turn.TheVariants.{Done}
 use Rattle.sgt_desk.specs.declared.making.Asked.{Asked}
 use Rattle.sgt_desk.specs.declared.making.Asked.TheVariants.{Step, Access, Quit}
 use Rattle.sgt_desk.specs.Runs.{IsOutcome}

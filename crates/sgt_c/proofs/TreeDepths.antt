@@ -1,7 +1,7 @@
 -- The tree of a procedure without a flaw is not too deep to be read again.
 use Rattle.std.proofs.Common.{◌≡◌, refl, ◌≤◌, ◌+◌, ◌*◌, ℕ, ℤ, max, List, [], ◌∷◌, Some, arith}
 use Rattle.std.specs.Prelude.{⊤, Ok, option_and_then, codes, IsUtf8}
-use Rattle.serde_json.specs.Data.{Data, null, boolean, number, string, array, object, Items, no_items, item, depth, items_depth}
+use Rattle.serde_json.specs.Data.{Data, number, string, array, Items, no_items, item, depth, items_depth}
 use Rattle.serde_json.specs.Read.{read, max_depth}
 use Rattle.sgt_model.specs.Syntax.{ExprText, num, arg, reg, sum, diff, product, quotient, CondText, less, at_most, equal, Block, empty, look, find, put, remove, save, ask, choose, answer, ProcedureText}
 use Rattle.sgt_proc.specs.Flaws.{expr_depth, cond_depth, exprs_depth, depth as block_depth, IsFlawless}
