@@ -34,20 +34,7 @@ module _ (limits : Limits) (begun living : ℕ) where
 
 full_is : (r : Reply) → short_reply r ≡ bare.Full → r ≡ reply.Full
 full_is reply.Full e = refl
-full_is (reply.Started t) e = absurd cc
-full_is reply.NoProcedure e = absurd cc
-full_is reply.BadArgs e = absurd cc
-full_is reply.Spent e = absurd cc
-full_is reply.Unknown e = absurd cc
-full_is (reply.Over f) e = absurd cc
-full_is (reply.Looked k v) e = absurd cc
-full_is (reply.Wrote k v) e = absurd cc
-full_is reply.Ended e = absurd cc
-full_is reply.NotEnded e = absurd cc
-full_is (reply.Waits t) e = absurd cc
-full_is (reply.Committed answers) e = absurd cc
-full_is (reply.Aborted why fell) e = absurd cc
-full_is (reply.Refused code fell) e = absurd cc
+full_is _ e = absurd cc
 
 -- if a start is answered `Full`, as many are live as the limits allow
 pub full_count : (s : Configuration) (p : ℕ) (args : List ℤ) (before after : List Entry) (short : ShortReply)
