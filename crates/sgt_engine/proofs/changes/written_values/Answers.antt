@@ -5,7 +5,7 @@ use Rattle.std.specs.Option.{is_some, option_flatten}
 use Rattle.sgt_model.specs.Contents.{Key, key_eq}
 use Rattle.sgt_model.specs.Databases.{key_cmp}
 use Rattle.sgt_model.specs.Numbers.{IsValue}
-use Rattle.sgt_records.proofs.SettledValues.{same_key}
+use Rattle.sgt_model.proofs.FoundKeys.{same_key}
 use Rattle.sgt_engine.specs.Writes.{is_written, reports_write}
 use Rattle.sgt_engine.proofs.KeysWritten.{written_at, no_write, range_put, value_put, value_kept, value_more}
 use Rattle.sgt_engine.proofs.changes.written_values.Goals.{in-Wrote+in_ok-insert, then-removes, else-removes, in_default}
