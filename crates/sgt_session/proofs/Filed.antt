@@ -91,3 +91,11 @@ pub there_is : {X : Type 0} (xs : List X) (n : ℕ) → n < length xs → (x : X
 there_is [] n h = absurd (omega (arith, h))
 there_is (x ∷ xs) zero h = (x, refl)
 there_is (x ∷ xs) (suc n) h = there_is xs n (omega (arith, h))
+
+-- the last item of a list that has some
+pub last_of : {X : Type 0} (xs : List X) → 0 < length xs → (ys : List X) × (x : X) × (xs ≡ ys ++ x ∷ [])
+last_of [] some = absurd (omega (arith, some))
+last_of (x ∷ []) some = ([], x, refl)
+last_of (x ∷ (y ∷ xs)) some =
+    let rest = last_of (y ∷ xs) (omega arith) in
+    (x ∷ rest.0, rest.1, ap (λ l. x ∷ l) rest.2)

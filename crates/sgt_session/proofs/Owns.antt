@@ -1,5 +1,5 @@
 -- How many transactions a session must treat as live.
-use Rattle.std.proofs.Common.{◌≡◌, ℕ, ◌+◌, ◌<◌, ◌≤◌, Bool, true, false, cond, List, [], ◌∷◌, ◌++◌, length, Option, Some, None, refl, ap₂, sym, ◌&&◌, arith}
+use Rattle.std.proofs.Common.{◌≡◌, ℕ, ◌+◌, ◌<◌, ◌≤◌, Bool, true, false, cond, List, [], ◌∷◌, ◌++◌, length, Option, Some, None, refl, ap₂, sym, arith}
 use Rattle.std.proofs.lemmas.List.{length-append}
 use Rattle.sgt_model.specs.declared.event.Event.{Event}
 use Rattle.sgt_model.specs.declared.event.Event.TheVariants.{Start, Step, Access, Commit, Quit}
@@ -63,8 +63,3 @@ fits own own' e r count spare spare' same reported enough counted used =
 -- none is added or taken out
 pub quiet_own : (own : List ℕ) (e : Event) (r : Reply) → started_in e r ≡ None → over_in e r ≡ None → own ≡ open_by own e r
 quiet_own own e r started over = sym (ap₂ (λ (o s : Option ℕ). open_without o (with_one s own)) over started)
-
--- nothing waits for it
-pub no_wait : (may waits : Bool) → waits ≡ false → false ≡ (may && waits)
-no_wait false waits not = refl
-no_wait true waits not = sym not

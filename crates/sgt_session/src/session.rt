@@ -1,5 +1,5 @@
 //! A session: one caller's way to the engine.
-ghost use Rattle.std.specs.Prelude.{◌≡◌, ◌+◌, ◌<◌, ◌≤◌, ◌^◌, ◌&&◌, true, false, cond, List, [], ◌∷◌, ◌++◌, All, length, vec_len, vec_capacity, IfOk, MatchResult};
+ghost use Rattle.std.specs.Prelude.{◌≡◌, ◌+◌, ◌<◌, ◌≤◌, ◌^◌, false, cond, List, [], ◌∷◌, ◌++◌, All, length, vec_len, vec_capacity, IfOk, MatchResult};
 ghost use Rattle.std.specs.List.{sum_by};
 ghost use Rattle.sgt_model.specs.declared.event.Event.TheVariants.{Commit, Step};
 ghost use Rattle.sgt_log.specs.StepKinds.{IsOfKind};
@@ -144,13 +144,32 @@ impl<N: Named> Session<N> {
         if shared.sessions > 1 && matches!(event, Event::Start { .. }) {
             self.receipts.prefault_receipts();
         }
-        let mut kind = StepKind::Other;
-        self.make_one(rt, shared, event, false, &mut WaitCount::new(), &mut kind)?;
+        self.make_one(rt, shared, event)
+    }
+
+    /// Makes one event while holding the lock once, and appends the receipt.
+    #[inline(always)]
+    fn make_one<R: Records, A: Accesses, G: Graph, W: Wait>(
+        &mut self,
+        rt: &W,
+        shared: &Shared<N, R, A, G>,
+        event: &Event,
+    ) -> Result<(), NoMemory>
+        ensures { MatchResult result
+            (λ _. (r : Receipt) × (r.event ≡ event.now) × (self.new ≡ self.old ++ r ∷ []))
+            (λ _. self.new ≡ self.old) }
+    {
+        let spare = ensure_receipt_capacity(&mut self.receipts, &mut self.own, event)?;
+        let (turn, mut round) = shared.lock_policy.lock(rt, &shared.round, event, spare);
+        let kind = round.apply(event, &mut self.share, &mut self.receipts)?;
+        drop(round);
+        drop(turn);
+        note_newest(&mut self.own, &self.receipts, kind, &shared.waiters);
         Ok(())
     }
 
-    /// Like `make`, for a step, and returns what its entry is to a caller that makes one step after another. It is compiled
-    /// for steps alone, so the kind of its event is not tested at run time.
+    /// Like `make`, for a step, and returns what its entry is to a caller that makes one step after another. The event is made
+    /// where it is passed, so that its kind is known there at compile time.
     #[inline(always)]
     pub fn make_step<R: Records, A: Accesses, G: Graph, W: Wait>(
         &mut self,
@@ -162,9 +181,14 @@ impl<N: Named> Session<N> {
             (λ kind. (r : Receipt) × (r.event ≡ Step t) × (self.new ≡ self.old ++ r ∷ []) × IsOfKind kind (entry_of r))
             (λ _. self.new ≡ self.old) }
     {
-        let mut kind = StepKind::Other;
-        let step = Event::Step(t);
-        self.make_one(rt, shared, &step, false, &mut WaitCount::new(), &mut kind)?;
+        let spare = ensure_receipt_capacity(&mut self.receipts, &mut self.own, &Event::Step(t))?;
+        let (turn, mut round) = shared
+            .lock_policy
+            .lock(rt, &shared.round, &Event::Step(t), spare);
+        let kind = round.apply(&Event::Step(t), &mut self.share, &mut self.receipts)?;
+        drop(round);
+        drop(turn);
+        note_newest(&mut self.own, &self.receipts, kind, &shared.waiters);
         Ok(kind)
     }
 
@@ -222,50 +246,40 @@ impl<N: Named> Session<N> {
             (λ _. (r : Receipt) × (self.new ≡ (self.old ++ waits) ++ r ∷ []) × (r.event ≡ Commit t) × (is_wait r.reply ≡ false))
             (λ _. self.new ≡ self.old ++ waits) }
     {
-        let mut kind = StepKind::Other;
         for _ in rt.forever() {
-            if !self.make_one(rt, shared, &Event::Commit(t), true, count, &mut kind)? {
+            if !self.commit_once(rt, shared, t, count)? {
                 return Ok(());
             }
         }
         unreachable!()
     }
 
-    /// Makes one event and appends its receipt. If the reply is `Waits` and the call `may_wait`, it waits once, and
-    /// counts it. The wait begins before the lock is freed. Returns whether it waited, and writes to `kind` what the entry
-    /// is to a caller that makes one step after another.
+    /// Makes one commit and appends its receipt. If the reply is `Waits`, it waits once, and counts it. The wait begins
+    /// before the lock is freed. Returns whether it waited.
     #[inline(always)]
-    fn make_one<R: Records, A: Accesses, G: Graph, W: Wait>(
+    fn commit_once<R: Records, A: Accesses, G: Graph, W: Wait>(
         &mut self,
         rt: &W,
         shared: &Shared<N, R, A, G>,
-        event: &Event,
-        may_wait: bool,
+        t: Tid,
         count: &mut WaitCount,
-        kind: &mut StepKind,
     ) -> Result<bool, NoMemory>
         requires fits { count.old + 1 < 2 ^ 64 }
         ensures receipt { MatchResult result
-            (λ waited. (r : Receipt) × (r.event ≡ event.now) × (self.new ≡ self.old ++ r ∷ [])
-            × (waited ≡ (may_wait && is_wait r.reply)) × IsOfKind kind.new (entry_of r))
+            (λ waited. (r : Receipt) × (r.event ≡ Commit t) × (self.new ≡ self.old ++ r ∷ [])
+            × (waited ≡ is_wait r.reply))
             (λ _. self.new ≡ self.old) }
         ensures counted { MatchResult result
             (λ waited. count.new ≡ count.old + cond waited 1 0)
             (λ _. count.new ≡ count.old) }
     {
-        let spare = ensure_receipt_capacity(&mut self.receipts, &mut self.own, event)?;
-        let (turn, mut round) = shared.lock_policy.lock(rt, &shared.round, event, spare);
-        *kind = round.apply(event, &mut self.share, &mut self.receipts)?;
-        // Most calls start and end nothing, and no other call waits for them.
-        if kind.is_step() {
-            drop(round);
-            drop(turn);
-            return Ok(false);
-        }
+        let spare = ensure_receipt_capacity(&mut self.receipts, &mut self.own, &Event::Commit(t))?;
+        let (turn, mut round) = shared
+            .lock_policy
+            .lock(rt, &shared.round, &Event::Commit(t), spare);
+        round.apply(&Event::Commit(t), &mut self.share, &mut self.receipts)?;
         let entry = self.receipts.last_entry();
-        let waited = shared
-            .waiters
-            .end_hold(rt, turn, round, &entry, may_wait, count);
+        let waited = shared.waiters.end_hold(rt, turn, round, &entry, count);
         note_and_wake(&mut self.own, &shared.waiters, &entry);
         Ok(waited)
     }
@@ -279,17 +293,32 @@ impl<N: Named> Session<N> {
     }
 }
 
-/// Records what an entry says of the session's own transactions, and wakes all waiting commits if it ends one. Most
-/// entries do neither.
+/// Records what the newest receipt's entry says of the session's own transactions, and wakes all waiting commits if it
+/// ends one. Most entries are steps that do neither.
+#[inline(always)]
+fn note_newest(own: &mut Vec<Tid>, receipts: &Receipts, kind: StepKind, waiters: &Waiters)
+    requires some { 0 < length receipts.now.receipts }
+    requires kind { (rs : List Receipt) (r : Receipt) → receipts.now.receipts ≡ rs ++ r ∷ [] → IsOfKind kind (entry_of r) }
+    requires spare { (rs : List Receipt) (r : Receipt) → receipts.now.receipts ≡ rs ++ r ∷ []
+        → length (with_one (started_in r.event r.reply) own.old.items) ≤ vec_capacity own.old }
+    ensures own { (rs : List Receipt) (r : Receipt) → receipts.now.receipts ≡ rs ++ r ∷ []
+        → own.new.items ≡ open_by own.old.items r.event r.reply }
+    ensures count { (rs : List Receipt) (r : Receipt) → receipts.now.receipts ≡ rs ++ r ∷ []
+        → vec_len own.new ≡ length (open_by own.old.items r.event r.reply) }
+{
+    if kind.is_step() {
+        return;
+    }
+    note_and_wake(own, waiters, &receipts.last_entry());
+}
+
+/// Records what an entry says of the session's own transactions, and wakes all waiting commits if it ends one.
 #[inline]
 fn note_and_wake(own: &mut Vec<Tid>, waiters: &Waiters, entry: &EntryRef<'_>)
     requires { length (with_one (started_in entry.now.event entry.now.reply) own.old.items) ≤ vec_capacity own.old }
     ensures own { own.new.items ≡ open_by own.old.items entry.now.event entry.now.reply }
     ensures count { vec_len own.new ≡ length (open_by own.old.items entry.now.event entry.now.reply) }
 {
-    if entry.is_progress() {
-        return;
-    }
     note(own, entry);
     waiters.wake_after(entry);
 }

@@ -1,5 +1,5 @@
 //! Commits that wait for the end of another transaction, and the wakes that end their waits.
-ghost use Rattle.std.specs.Prelude.{◌≡◌, ◌+◌, ◌<◌, ◌^◌, ◌&&◌, cond};
+ghost use Rattle.std.specs.Prelude.{◌≡◌, ◌+◌, ◌<◌, ◌^◌, cond};
 ghost use Rattle.std.specs.Sync.Mutex.{mutex_guard_value};
 ghost use Rattle.sgt_model.specs.Questions.{is_ending, is_wait};
 ghost use Rattle.sgt_session.specs.Receipts.{IsNewest};
@@ -28,9 +28,8 @@ impl Waiters {
         }
     }
 
-    /// Ends the turn of a call that got this entry: frees its lock, then its turn. If the reply is `Waits` and the call
-    /// `may_wait`, it waits once, and counts it. The wait begins while the lock is still held. Returns whether it
-    /// waited.
+    /// Ends the turn of a commit that got this entry: frees its lock, then its turn. If the reply is `Waits`, it waits
+    /// once, and counts it. The wait begins while the lock is still held. Returns whether it waited.
     ///
     /// The entry is the newest under the lock. So nothing has ended since the reply, and no wake is missed.
     pub fn end_hold<'l, W: Wait, N: Named, R: Records, A: Accesses, G: Graph>(
@@ -39,15 +38,14 @@ impl Waiters {
         turn: Turn<'l>,
         round: MutexGuard<'l, Round<N, R, A, G>>,
         entry: &EntryRef<'_>,
-        may_wait: bool,
         count: &mut WaitCount,
     ) -> bool
         requires newest { IsNewest entry.now (mutex_guard_value round).past }
         requires fits { count.old + 1 < 2 ^ 64 }
-        ensures waits { result ≡ (may_wait && is_wait entry.now.reply) }
+        ensures waits { result ≡ is_wait entry.now.reply }
         ensures counted { count.new ≡ count.old + cond result 1 0 }
     {
-        let waits = may_wait && entry.is_wait();
+        let waits = entry.is_wait();
         if waits {
             self.ended.wait(rt, round, count);
         } else {

@@ -1,50 +1,11 @@
-use Rattle.std.proofs.Common.{rules, ◌≡◌, ◌∙◌, ◌&&◌, [], ◌∷◌, ◌++◌, length, ap, arith}
+use Rattle.std.proofs.Common.{rules, ◌∙◌, [], ◌∷◌, length, ap, arith}
 use Rattle.std.proofs.lemmas.List.{length-append}
-use Rattle.sgt_model.specs.declared.entry.Entry.{Entry}
-use Rattle.sgt_model.specs.Questions.{is_wait}
-use Rattle.sgt_session.specs.Receipts.{entry_of}
-use Rattle.sgt_session.proofs.Newest.{filed_is_newest}
-use Rattle.sgt_log.specs.EntryParts.{IsQuiet}
-use Rattle.sgt_session.proofs.Owns.{noted, fits, quiet_own, no_wait}
+use Rattle.sgt_session.proofs.Owns.{noted, fits}
 use Rattle.sgt_session.proofs.session.Session.make_one.Goals as goal
-
-pub invariant_of-self-then-is_step : goal.invariant_of-self-then-is_step
-invariant_of-self-then-is_step g c =
-    let filed = c.in_ok-kind.ensures.filed in
-    let quiet : IsQuiet (entry_of filed.0) = c.is_step.ensures c.if-is_step.true (entry_of filed.0) filed.6 in
-    let longer = ap length filed.5 in
-    let one = length-append c.ensure_receipt_capacity.new.receipts.receipts (filed.0 ∷ []) in
-    let kept = ap length c.in_ok-spare.ensures.receipts in
-    let own = quiet_own c.ensure_receipt_capacity.new.own.items filed.0.event filed.0.reply quiet.0 quiet.1 in (
-      search rules,
-      omega (arith, c.in_ok-kind.ensures.counted, longer, one, kept, c.self.invariant.1),
-      noted c.self.inside.receipts.receipts c.apply.new.receipts.receipts c.ensure_receipt_capacity.new.own.items _ filed.0
-          (c.in_ok-spare.ensures.own ∙ c.self.invariant.2)
-          (rw c.in_ok-spare.ensures.receipts at filed.5)
-          own,
-      fits c.self.inside.own.items c.ensure_receipt_capacity.new.own.items _ filed.0 _ _ _
-          c.in_ok-spare.ensures.own
-          filed.1
-          c.in_ok-spare.ensures.spare
-          (c.ensure_receipt_capacity.new.own.ok.0 ∙ ap length own)
-          c.in_ok-kind.ensures.spare,
-    )
-
-pub returns-then-is_step-clause-receipt : goal.returns-then-is_step-clause-receipt
-returns-then-is_step-clause-receipt g c =
-    let filed = c.in_ok-kind.ensures.filed in
-    let quiet : IsQuiet (entry_of filed.0) = c.is_step.ensures c.if-is_step.true (entry_of filed.0) filed.6 in (
-      filed.0,
-      filed.1,
-      filed.5 ∙ ap (λ l. l ++ filed.0 ∷ []) (c.in_ok-spare.ensures.receipts ∙ c.self.view_is),
-      no_wait c.args.may_wait _ quiet.3,
-      filed.6,
-    )
 
 pub invariant_of-self-2 : goal.invariant_of-self-2
 invariant_of-self-2 g c =
     let filed = c.in_ok-kind.ensures.filed in
-    let same : c.last_entry-entry.result ≡ entry_of filed.0 = c.last_entry-entry.ensures _ filed.0 filed.5 in
     let longer = ap length filed.5 in
     let one = length-append c.ensure_receipt_capacity.new.receipts.receipts (filed.0 ∷ []) in
     let kept = ap length c.in_ok-spare.ensures.receipts in (
@@ -53,28 +14,11 @@ invariant_of-self-2 g c =
       noted c.self.inside.receipts.receipts c.apply.new.receipts.receipts c.ensure_receipt_capacity.new.own.items _ filed.0
           (c.in_ok-spare.ensures.own ∙ c.self.invariant.2)
           (rw c.in_ok-spare.ensures.receipts at filed.5)
-          (rw same at c.note_and_wake.ensures.own),
+          (c.note_newest.ensures.own _ filed.0 filed.5),
       fits c.self.inside.own.items c.ensure_receipt_capacity.new.own.items _ filed.0 _ _ _
           c.in_ok-spare.ensures.own
           filed.1
           c.in_ok-spare.ensures.spare
-          (rw same at c.note_and_wake.ensures.count)
+          (c.note_newest.ensures.count _ filed.0 filed.5)
           c.in_ok-kind.ensures.spare,
-    )
-
-pub end_hold-waited-requires-clause-newest : goal.end_hold-waited-requires-clause-newest
-end_hold-waited-requires-clause-newest g c κs within =
-    let filed = c.in_ok-kind.ensures.filed in
-    let same : c.last_entry-entry.result ≡ entry_of filed.0 = c.last_entry-entry.ensures _ filed.0 filed.5 in
-    filed_is_newest _ _ filed.0 _ filed.3 same
-
-pub returns-clause-receipt : goal.returns-clause-receipt
-returns-clause-receipt g c =
-    let filed = c.in_ok-kind.ensures.filed in
-    let same : c.last_entry-entry.result ≡ entry_of filed.0 = c.last_entry-entry.ensures _ filed.0 filed.5 in (
-      filed.0,
-      filed.1,
-      filed.5 ∙ ap (λ l. l ++ filed.0 ∷ []) (c.in_ok-spare.ensures.receipts ∙ c.self.view_is),
-      c.end_hold-waited.ensures.waits ∙ ap (λ (e : Entry). c.args.may_wait && is_wait e.reply) same,
-      filed.6,
     )

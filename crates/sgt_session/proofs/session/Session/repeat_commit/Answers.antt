@@ -8,7 +8,7 @@ use Rattle.sgt_session.proofs.session.Session.repeat_commit.Goals as goal
 pub loop-preserved : goal.loop-preserved
 loop-preserved g c =
     let waits = c.loop.invariant.3 in
-    let filed = c.in_ok-make_one.ensures.receipt in
+    let filed = c.in_ok-commit_once.ensures.receipt in
     let wait : is_wait filed.0.reply ≡ true = search (rules, filed.3) in (
       search rules,
       search rules,
@@ -24,7 +24,7 @@ loop-preserved g c =
 pub returns-then-not-branch : goal.returns-then-not-branch
 returns-then-not-branch g c =
     let waits = c.loop.invariant.3 in
-    let filed = c.in_ok-make_one.ensures.receipt in
+    let filed = c.in_ok-commit_once.ensures.receipt in
     let done : is_wait filed.0.reply ≡ false = search (rules, filed.3) in
     record {
       waits = (
