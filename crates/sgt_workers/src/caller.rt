@@ -12,19 +12,13 @@ use sgt_session::{Named, Session, Shared};
 use std::alloc::Global;
 use std::sync::Wait;
 
-/// The result of one attempt at a job. Entries are named by their numbers.
+/// The result of one attempt at a job.
 #[derive(Drop)]
 enum Attempt<X> {
     /// This transaction was aborted by a cycle or in cascade. The job may be tried again.
     Failed(Tid),
-    /// This entry committed the transaction.
-    Done(u64),
-    /// This entry aborted the transaction, whose procedure raised a code.
-    Asked(u64),
-    /// This entry refused the start.
-    Refused(u64),
-    /// The worker stopped.
-    Halted(Halt<X>),
+    /// The job has this outcome.
+    Ended(Outcome<X>),
 }
 
 /// Why a worker stops during an attempt. Its transaction, if live, must be aborted.
@@ -49,11 +43,11 @@ impl<X> From<NoMemory> for Halt<X> {
 }
 
 impl<X> Halt<X> {
-    /// The outcome of the job, if it has one.
-    fn into_outcome(self) -> Result<Outcome<X>, Unexpected> {
+    /// The result of the attempt, if it has one.
+    fn into_attempt(self) -> Result<Attempt<X>, Unexpected> {
         match self {
-            Halt::Leave(note) => Ok(Outcome::Left(note)),
-            Halt::NoMemory => Ok(Outcome::NoMemory),
+            Halt::Leave(note) => Ok(Attempt::Ended(Outcome::Left(note))),
+            Halt::NoMemory => Ok(Attempt::Ended(Outcome::NoMemory)),
             Halt::Unexpected => Err(Unexpected),
         }
     }
@@ -87,24 +81,21 @@ impl<'a, N: Named, R: Records, A: Accesses, G: Graph, T: Gate, W: Wait> Caller<
     ) -> Result<Outcome<T::Note>, Unexpected> {
         let mut attempts = Vec::new(alloc);
         for _ in 0..tries {
-            match self.attempt(job) {
+            match self.attempt(job)? {
                 Attempt::Failed(t) => {
                     self.gate.failed(self.number, job.number, t);
                     if attempts.push(t).is_err() {
                         return Ok(Outcome::NoMemory);
                     }
                 }
-                Attempt::Done(number) => return Ok(Outcome::Done(number)),
-                Attempt::Asked(number) => return Ok(Outcome::Asked(number)),
-                Attempt::Refused(number) => return Ok(Outcome::Refused(number)),
-                Attempt::Halted(halt) => return halt.into_outcome(),
+                Attempt::Ended(outcome) => return Ok(outcome),
             }
         }
         Ok(Outcome::Gave(attempts))
     }
 
     /// One attempt. Whatever its result, its transaction is no longer live.
-    fn attempt(&mut self, job: &Job) -> Attempt<T::Note> {
+    fn attempt(&mut self, job: &Job) -> Result<Attempt<T::Note>, Unexpected> {
         let start = Event::Start {
             procedure: job.procedure,
             args: job.args.copied(),
@@ -112,19 +103,22 @@ impl<'a, N: Named, R: Records, A: Accesses, G: Graph, T: Gate, W: Wait> Caller<
         match self.call(&start) {
             Ok(()) => match self.session.last_entry().started() {
                 Some(t) => self.attempt_with(t),
-                None => Attempt::Refused(self.session.last_number()),
+                None => {
+                    let number = self.session.last_number();
+                    Ok(Attempt::Ended(Outcome::Refused(number)))
+                }
             },
-            Err(halt) => Attempt::Halted(halt),
+            Err(halt) => halt.into_attempt(),
         }
     }
 
     /// The attempt with a transaction that was started for it.
-    fn attempt_with(&mut self, t: Tid) -> Attempt<T::Note> {
+    fn attempt_with(&mut self, t: Tid) -> Result<Attempt<T::Note>, Unexpected> {
         match self.run_transaction(t) {
-            Ok(attempt) => attempt,
+            Ok(attempt) => Ok(attempt),
             Err(halt) => {
                 self.quit(t);
-                Attempt::Halted(halt)
+                halt.into_attempt()
             }
         }
     }
@@ -186,10 +180,10 @@ impl<'a, N: Named, R: Records, A: Accesses, G: Graph, T: Gate, W: Wait> Caller<
 /// The result of the attempt by the last entry of this transaction; the entry has this number.
 fn attempt_of<X>(t: Tid, number: u64, entry: &EntryRef<'_>) -> Result<Attempt<X>, Halt<X>> {
     if entry.is_commit() {
-        return Ok(Attempt::Done(number));
+        return Ok(Attempt::Ended(Outcome::Done(number)));
     }
     if entry.is_raised() {
-        return Ok(Attempt::Asked(number));
+        return Ok(Attempt::Ended(Outcome::Asked(number)));
     }
     if entry.is_by_cycle() || entry.reports_fall() {
         return Ok(Attempt::Failed(t));

@@ -145,6 +145,7 @@ fn run_batch<N: Named, R: Records, A: Accesses, G: Graph, T: Gate, W: Wait>(
 }
 
 /// Writes the outcome at its job's number.
+#[inline(always)]
 fn put_outcome<X: Drop, W: Wait>(
     rt: &W,
     outcomes: &Mutex<Vec<Outcome<X>>>,
