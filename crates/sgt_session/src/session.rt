@@ -185,7 +185,7 @@ impl<N: Named> Session<N> {
         let (turn, mut round) = shared
             .lock_policy
             .lock(rt, &shared.round, &Event::Step(t), spare);
-        let kind = round.apply(&Event::Step(t), &mut self.share, &mut self.receipts)?;
+        let kind = round.apply_step(t, &mut self.share, &mut self.receipts)?;
         drop(round);
         drop(turn);
         note_newest(&mut self.own, &self.receipts, kind, &shared.waiters);

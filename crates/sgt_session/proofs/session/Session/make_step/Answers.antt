@@ -11,7 +11,7 @@ invariant_of-self-2 g c =
     let kept = ap length c.in_ok-spare.ensures.receipts in (
       search rules,
       omega (arith, c.in_ok-kind.ensures.counted, longer, one, kept, c.self.invariant.1),
-      noted c.self.inside.receipts.receipts c.apply.new.receipts.receipts c.ensure_receipt_capacity.new.own.items _ filed.0
+      noted c.self.inside.receipts.receipts c.apply_step.new.receipts.receipts c.ensure_receipt_capacity.new.own.items _ filed.0
           (c.in_ok-spare.ensures.own ∙ c.self.invariant.2)
           (rw c.in_ok-spare.ensures.receipts at filed.5)
           (c.note_newest.ensures.own _ filed.0 filed.5),
