@@ -17,7 +17,7 @@ import sys
 from functools import cache
 
 sys.dont_write_bytecode = True
-from helpers.cases import TESTS, Differs, same, run_cases  # noqa: E402
+from helpers.cases import SECONDS, TESTS, Differs, same, run_cases  # noqa: E402
 
 TOP = TESTS.parent
 sys.path.insert(0, str(TOP / "tools"))
@@ -389,7 +389,7 @@ def run_as_they_say(sgt):
     for page, command, wanted in commands:
         command = command.replace("crates/sgt/out/sgt", sgt)
         env = dict(os.environ, PATH=f"{os.path.dirname(sgt)}:{os.environ['PATH']}")
-        ran = subprocess.run(["sh", "-c", command], cwd=TOP, env=env, stdout=subprocess.PIPE, stderr=subprocess.STDOUT, timeout=60, check=False)
+        ran = subprocess.run(["sh", "-c", command], cwd=TOP, env=env, stdout=subprocess.PIPE, stderr=subprocess.STDOUT, timeout=SECONDS, check=False)
         same(f"{page}: {command}", "".join(line + "\n" for line in wanted), ran.stdout.decode())
     return f"{len(commands)} commands"
 
@@ -536,7 +536,7 @@ def have_a_grammar_that_refuses_bad_lines(_sgt):
 
 def accepted(sgt, lines):
     """The first line of a script's error, if there is one."""
-    ran = subprocess.run([sgt, "script"], input="\n".join(lines).encode(), capture_output=True, timeout=60, check=False)
+    ran = subprocess.run([sgt, "script"], input="\n".join(lines).encode(), capture_output=True, timeout=SECONDS, check=False)
     return ran.stderr.decode().split("\n")[0]
 
 
@@ -549,7 +549,7 @@ def have_a_grammar_that_the_program_accepts(sgt):
     events = [grammar().drawn(name, by) for _ in range(300) for name in ("event", "cut")]
     same("the errors of drawn events", "", accepted(sgt, [OPENING, *events]))
     jobs = [grammar().drawn("job", by) for _ in range(200)]
-    ran = subprocess.run([sgt, "bank"], input="\n".join([OPENING, *jobs]).encode(), capture_output=True, timeout=60, check=False)
+    ran = subprocess.run([sgt, "bank"], input="\n".join([OPENING, *jobs]).encode(), capture_output=True, timeout=SECONDS, check=False)
     same("the errors of drawn jobs", "", ran.stderr.decode())
     for _ in range(150):
         error = accepted(sgt, [OPENING[:-2] + grammar().drawn("procedure", by) + "]}"])
@@ -575,7 +575,7 @@ def have_the_five_procedures(sgt):
     def ran(first):
         jobs = [json.dumps(["job", first + number, args]) for number, args in calls]
         words = [sgt, "bank", "--workers", "1"]
-        return subprocess.run(words, input="\n".join([json.dumps(opening), *jobs]).encode(), capture_output=True, timeout=60, check=False).stdout
+        return subprocess.run(words, input="\n".join([json.dumps(opening), *jobs]).encode(), capture_output=True, timeout=SECONDS, check=False).stdout
 
     same("what the procedures of the page do", ran(0).decode(), ran(5).decode())
 

@@ -10,8 +10,8 @@ operations and the report say, and the boxes with each other and with the size o
 
 import random
 import re
+import resource
 import sys
-import time
 import xml.etree.ElementTree as ElementTree
 
 sys.dont_write_bytecode = True
@@ -233,13 +233,19 @@ def draws_the_longest_whole(sgt):
     dice = random.Random(2)
     operations = drawn_history(dice, 30, MOST - 30, list("xyzuv"), ends="")
     operations += [(dice.choice("cca"), str(t), None) for t in range(1, 31)]
-    started = time.monotonic()
+    before = time_of_programs()
     report, text = picture_of(sgt, operations, "--all")
-    took = time.monotonic() - started
+    took = time_of_programs() - before
     compare(operations, report, text)
     if took > 2:
-        raise Differs(f"a report and a picture of {MOST} operations took {took:.1f} s")
+        raise Differs(f"a report and a picture of {MOST} operations took {took:.1f} s of processor time")
     return f"{1000 * took:.0f} ms, a report with it"
+
+
+def time_of_programs():
+    """Seconds of processor time that the programs took which have ended here. On a busy machine the clock tells more of other programs."""
+    used = resource.getrusage(resource.RUSAGE_CHILDREN)
+    return used.ru_utime + used.ru_stime
 
 
 def draws_a_cycle_of_a_long_history(sgt):

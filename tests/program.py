@@ -1187,40 +1187,55 @@ def line_of(one):
 
 
 def gives_signs_of_life(sgt):
-    """How many jobs of a bank have ended, or events of a script are answered, at most once a second: on a terminal, or with an option."""
-    bank = OVERLAPPING + '["job",6,[]]\n' * 40_000
+    """How many jobs of a bank have ended, or events of a script are answered, at most once a second: on a terminal, or with an option. There
+    are more jobs each time until they take so long that there is a line, on however quick or slow a machine."""
     for words, terminal, shows in ((["--progress"], False, True), ([], True, True), ([], False, False), (["--no-progress"], True, False)):
-        ours, theirs = os.openpty() if terminal else os.pipe()
-        with tempfile.TemporaryFile() as given:
-            given.write(bank.encode())
-            given.seek(0)
-            began = time.monotonic()
-            process = sgt.start("bank", *words, stdin=given, stdout=subprocess.DEVNULL, stderr=theirs)
-        os.close(theirs)
-        lines = read_terminal(ours).splitlines()
-        same("status", 0, process.wait(SECONDS))
-        seconds = time.monotonic() - began
-        same(f"{words}, a terminal: {terminal}", [], [line for line in lines if not re.fullmatch("[0-9]+ jobs have ended", line)])
-        if len(lines) > (seconds if shows else 0) or shows and seconds > 3 and not lines:
-            raise Differs(f"{words}, a terminal: {terminal}: {len(lines)} lines in {seconds} seconds")
+        for jobs in (40_000, 80_000, 160_000, 320_000, 640_000, 1_280_000) if shows else (40_000,):
+            lines, seconds = signs_of_life(sgt, words, terminal, jobs)
+            same(f"{words}, a terminal: {terminal}", [], [line for line in lines if not re.fullmatch("[0-9]+ jobs have ended", line)])
+            if len(lines) > (seconds if shows else 0):
+                raise Differs(f"{words}, a terminal: {terminal}: {len(lines)} lines in {seconds} seconds")
+            if lines:
+                break
+        same(f"{words}, a terminal: {terminal}: whether there is a line", shows, bool(lines))
+
+
+def signs_of_life(sgt, words, terminal, jobs):
+    """What a bank with so many jobs says on standard error, and the seconds that it takes."""
+    ours, theirs = os.openpty() if terminal else os.pipe()
+    with tempfile.TemporaryFile() as given:
+        given.write((OVERLAPPING + '["job",6,[]]\n' * jobs).encode())
+        given.seek(0)
+        began = time.monotonic()
+        process = sgt.start("bank", *words, stdin=given, stdout=subprocess.DEVNULL, stderr=theirs)
+    os.close(theirs)
+    lines = read_terminal(ours).splitlines()
+    same("status", 0, process.wait(SECONDS))
+    return lines, time.monotonic() - began
 
 
 def says_how_far_a_script_is(sgt):
     """Events and bytes, of how many if it is a file: before a read that comes a second after the last line, on a terminal or with an option."""
     for words, terminal, shows in ((["--progress"], False, True), (["--progress", "--explain"], False, True), ([], True, True), ([], False, False), (["--no-progress"], True, False)):
         ours, theirs = os.openpty() if terminal else os.pipe()
-        process = sgt.start("script", *words, stdin=subprocess.PIPE, stdout=subprocess.DEVNULL, stderr=theirs)
+        began = time.monotonic()
+        process = sgt.start("script", *words, stdin=subprocess.PIPE, stdout=subprocess.PIPE, stderr=theirs)
         os.close(theirs)
         process.stdin.write((OPENING + EVENTS).encode())
         process.stdin.flush()
+        same("the first replies", REPLIES, "".join(process.stdout.readline().decode() for _ in REPLIES.splitlines()))
+        took = time_until_it_waits(process, began)
         time.sleep(1.2)
         process.stdin.write(b'["commit",0]\n["cut"]\n["quit",0]\n')
         process.stdin.close()
         lines = read_terminal(ours).splitlines()
+        same("the other replies", "not ended\nstill live\naborted quit fell none\n" + RECORDS, process.stdout.read().decode())
         same("status", 0, process.wait(SECONDS))
         size = len(OPENING + EVENTS) + 32
         wanted = [f"4 events are answered: {size} bytes"] if shows else []
         reasons = ["line 4: the procedure of 0 has not ended: it has another step"] if "--explain" in words else []
+        if shows and took >= 1 and lines[:1] == [f"2 events are answered: {size - 32} bytes"]:  # a slow machine took a second for these
+            del lines[0]
         same(f"{words}, a terminal: {terminal}", reasons + wanted, [line for line in lines if "transaction" not in line])
     with tempfile.TemporaryDirectory() as folder:
         given = os.path.join(folder, "given")
@@ -1233,6 +1248,16 @@ def says_how_far_a_script_is(sgt):
         came = [re.fullmatch(f"([0-9]+) events are answered: ([0-9]+) of {size} bytes", line) for line in lines]
         if None in came or len(came) > seconds or any(int(one[2]) != len(OPENING) + 11 * int(one[1]) for one in came):
             raise Differs(f"{lines} in {seconds} seconds")
+
+
+def time_until_it_waits(process, began):
+    """The seconds until a program sleeps, as it does where it reads what nobody has written yet."""
+    while (took := time.monotonic() - began) < SECONDS:
+        with open(f"/proc/{process.pid}/stat", encoding="ascii") as stat:
+            if stat.read().rpartition(")")[2].split()[0] == "S":
+                break
+        time.sleep(0.01)
+    return took
 
 
 def wants_an_opening(sgt):
