@@ -30,6 +30,7 @@ static void check(int holds, const char *text, int line)
 enum { MS = 1000000, LONGEST = 600 /* seconds for which something is waited for that has to come */ };
 
 static const char opening[] = "{\"limits\":[2,100,1],\"accounts\":[[1,101,500,1000],[2,102,0,0]],\"procedures\":[]}";
+static const char roomy[] = "{\"limits\":[2,1000000,1],\"accounts\":[[1,101,500,1000],[2,102,0,0]],\"procedures\":[]}";
 static const char shape[] = "{\"limits\":[8,100],\"accounts\":[],\"procedures\":[[0,[7]]]}";
 static const int64_t deposit[] = {1, 100};
 static const int64_t name[] = {1};
@@ -45,6 +46,15 @@ static sgt_shared *bank(const sgt_shared_config *config)
     sgt_shared *shared = 0;
     sgt_fault fault = {0};
     CHECK(opens(&shared, opening, config, &fault) == SGT_OK && shared);
+    return shared;
+}
+
+/* The same, where as many may start as come until another thread has begun. */
+static sgt_shared *roomy_bank(const sgt_shared_config *config)
+{
+    sgt_shared *shared = 0;
+    sgt_fault fault = {0};
+    CHECK(opens(&shared, roomy, config, &fault) == SGT_OK && shared);
     return shared;
 }
 
@@ -210,6 +220,19 @@ static void until_one_waits(sgt_shared *shared)
         pause_for(MS);
     }
     CHECK(!"a thread waits");
+}
+
+/* Until a cut waits for this thread, which has something live: a start that would wait for the cut would wait for its own thread. */
+static void until_cut_waits(sgt_shared *shared)
+{
+    sgt_reply reply = {0};
+    sgt_ticket ticket = {0};
+    uint32_t status = SGT_OK;
+    for (const int64_t end = seconds() + LONGEST; status == SGT_OK && seconds() < end;) {
+        status = sgt_shared_start(shared, 1, deposit, 2, SGT_FOREVER, &ticket, &reply);
+        if (status == SGT_OK) sgt_shared_quit(shared, &ticket, &reply), pause_for(MS);
+    }
+    CHECK(status == SGT_SELF_WAIT);
 }
 
 /* Until the history has this many entries. */
@@ -435,17 +458,14 @@ static void a_full_engine_is_waited_for(void)
 
 static void the_history_is_cut_off(void)
 {
-    sgt_shared *shared = bank(0), *other = bank(0);
+    sgt_shared *shared = roomy_bank(0), *other = bank(0);
     sgt_reply reply = {0};
     sgt_ticket old = begins(shared, 1), later = {0};
     uint64_t entries = 77, part = 77;
     struct later cutter = {.shared = shared, .call = cuts};
     CHECK(sgt_shared_cut(shared, 5 * MS) == SGT_TIMED_OUT && sgt_shared_cut(shared, 0) == SGT_TIMED_OUT);
     in_a_thread(&cutter);
-    while (sgt_shared_start(shared, 1, deposit, 2, MS, &later, &reply) == SGT_OK) { /* until the cutter has come */
-        sgt_shared_quit(shared, &later, &reply);
-        pause_for(MS);
-    }
+    until_cut_waits(shared);
     CHECK(cutter.status == 77);
     CHECK(sgt_shared_start(shared, 1, deposit, 2, 5 * MS, &later, &reply) == SGT_TIMED_OUT); /* it waits for the cut */
     CHECK(sgt_shared_quit(shared, &old, &reply) == SGT_OK);
@@ -608,8 +628,6 @@ static void hears_payers(void *context, const sgt_ended *call)
     if (sgt_shared_run(it->other, 1, deposit, 2, 0, &outcome) != SGT_OK) it->wrong++;
 }
 
-static const char roomy[] = "{\"limits\":[2,1000000,1],\"accounts\":[[1,101,500,1000],[2,102,0,0]],\"procedures\":[]}";
-
 static void hooks_are_called_for_all_threads(void)
 {
     struct payers others = {0}, payers = {0};
@@ -702,7 +720,7 @@ static void a_close_ends_drains(void)
 {
     sgt_shared_config config = SGT_SHARED_CONFIG;
     config.keeps_ended = 1;
-    sgt_shared *shared = bank(&config);
+    sgt_shared *shared = roomy_bank(&config);
     struct later one = {.shared = shared, .call = drains_until_closed}, other = one;
     struct later cutter = {.shared = shared, .call = cuts};
     sgt_ticket writer = begins(shared, 3);
@@ -710,6 +728,7 @@ static void a_close_ends_drains(void)
     in_a_thread(&one);
     in_a_thread(&other);
     in_a_thread(&cutter);
+    until_cut_waits(shared);
     pause_for(20 * MS);
     CHECK(sgt_shared_close(&shared) == SGT_BUSY && one.status == 77 && other.status == 77);
     CHECK(sgt_shared_quit(shared, &writer, &reply) == SGT_OK);

@@ -264,12 +264,14 @@ struct commit {
     int64_t wait_ns;
     uint32_t status;
     sgt_reply reply;
+    atomic_int is_cancelled;
 };
 
 static void *commits(void *of)
 {
     struct commit *it = of;
     it->status = sgt_shared_commit(it->shared, &it->ticket, it->wait_ns, &it->reply);
+    while (!it->is_cancelled) sched_yield(); /* which is no cancellation point */
     pthread_testcancel();
     it->status = 77;
     return 0;
@@ -285,6 +287,7 @@ static void a_cancelled_thread_holds_nothing(void)
     CHECK(pthread_create(&thread, 0, commits, &it) == 0);
     sleep_for(SLICE / 4);
     pthread_cancel(thread);
+    it.is_cancelled = 1;
     pthread_join(thread, &ended);
     CHECK(ended == PTHREAD_CANCELED && it.status == SGT_TIMED_OUT && lives(shared) == 2);
     it.wait_ns = SGT_FOREVER;

@@ -28,7 +28,7 @@ static void check(int holds, const char *text, int line)
     printf("line %d: %s\n", line, text);
 }
 
-enum { LONGEST = 300, ROUNDS = 200, TABLE = 7 };
+enum { LONGEST = 1000, ROUNDS = 200, TABLE = 7 };
 
 /* Procedure 5 writes a record, and procedure 6 reads it. */
 static const char two[] = "{\"limits\":[2,4000000000,1],\"accounts\":[],\"procedures\":"
