@@ -45,9 +45,9 @@ def run_cases(cases, *given, of="sgt"):
         try:
             reported = case(*given)
             print(f"{of} {name}" + (f": {reported}" if reported else ""), flush=True)
-        except (Differs, OSError) as why:
+        except (Differs, OSError, ValueError, LookupError, subprocess.SubprocessError) as why:
             failed += 1
-            print(f"FAILED: {of} {name}: {why}", flush=True)
+            print(f"FAILED: {of} {name}: {why if isinstance(why, Differs) else repr(why)}", flush=True)
     faulthandler.cancel_dump_traceback_later()
     print(f"{len(cases) - failed} passed, {failed} failed")
     return 1 if failed else 0

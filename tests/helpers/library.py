@@ -1,5 +1,6 @@
 """How programs are built with the library for C, and run."""
 
+import re
 import subprocess
 
 from .cases import TESTS, Differs
@@ -16,17 +17,25 @@ THREAD_SANITIZER = ["-g", "-fsanitize=thread"]
 WRAPS = ["-Wl,--wrap=malloc,--wrap=realloc,--wrap=calloc,--wrap=aligned_alloc"]
 WRAPS_LOCK = ["-Wl,--wrap=pthread_mutex_trylock"]
 
+# What a sanitizer says if the addresses that the system has drawn for a program are some that the sanitizer needs itself. The program has not
+# begun then, and with others it does: but not where most are so.
+IN_THE_WAY = re.compile(rb"unexpected memory mapping|Shadow memory range interleaves")
+BEGINNINGS = 100
+
 # What of the library is C. Built into a program, it goes before that of the library, and so it is sanitized with the program.
 SHARED = BINDINGS / "c" / "sgt_shared.c"
 
 
-def run(words, seconds=SECONDS, env=None, cwd=None, also_errors=False):
+def run(words, seconds=SECONDS, env=None, cwd=None, also_errors=False, beginnings=BEGINNINGS):
     """What the words write, where they end well; with standard error after it, if that is wanted."""
     words = [str(word) for word in words]
-    try:
-        ran = subprocess.run(words, capture_output=True, timeout=seconds, check=False, env=env, cwd=cwd)
-    except subprocess.TimeoutExpired:
-        raise Differs(f"{words[0]}: no end after {seconds} seconds") from None
+    for _ in range(beginnings):
+        try:
+            ran = subprocess.run(words, capture_output=True, timeout=seconds, check=False, env=env, cwd=cwd)
+        except subprocess.TimeoutExpired:
+            raise Differs(f"{words[0]}: no end after {seconds} seconds") from None
+        if not (ran.returncode and IN_THE_WAY.search(ran.stderr)):
+            break
     if ran.returncode:
         raise Differs(f"{words[0]}: status {ran.returncode}: {(ran.stdout + ran.stderr).decode()[-600:]}")
     return (ran.stdout + ran.stderr if also_errors else ran.stdout).decode()
@@ -52,7 +61,8 @@ def can(scratch, compiler, flags, text="int main(void) { return 0; }", words=())
     source.write_text(text + "\n")
     try:
         run([compiler, *flags, "-o", scratch / "nothing", source])
-        run([scratch / "nothing", *words])
+        for _ in range(10):  # as it may be that it can't be run each time
+            run([scratch / "nothing", *words], beginnings=1)
     except (Differs, OSError):
         return False
     return True
