@@ -454,14 +454,19 @@ def mixes_no_threads_replies(_):
                 if reply.answers != (number,):
                     wrong.append((number, reply))
 
+        def handle(*_):
+            engine.run(0, 7)
+            handled.append(True)
+
         threads = [threading.Thread(target=asks, args=(number,)) for number in range(4)]
-        switch = sys.getswitchinterval()
+        handled, switch = [], sys.getswitchinterval()
         sys.setswitchinterval(1e-6)
-        before = signal.signal(signal.SIGALRM, lambda *_: engine.run(0, 7))
-        signal.setitimer(signal.ITIMER_REAL, 0.0005, 0.0005)
+        before = signal.signal(signal.SIGALRM, handle)
         for thread in threads:
             thread.start()
-        for _ in range(20_000):
+        for made in range(20_000):
+            if made % 10 == 0 and not signal.getitimer(signal.ITIMER_REAL)[0]:  # so a slow machine does more than handle signals
+                signal.setitimer(signal.ITIMER_REAL, 0.0005)
             reply = engine.run(0, 5)[1]
             if reply.answers != (5,):
                 wrong.append((5, reply))
@@ -472,32 +477,49 @@ def mixes_no_threads_replies(_):
             thread.join()
         sys.setswitchinterval(switch)
         same("replies of others", [], wrong[:3])
+        same("whether signals came", True, bool(handled))
+    return f"{len(handled)} signals"
 
 
 def runs_calls_beside_threads(_):
-    """Other threads run beside the long calls of an engine that releases the interpreter's lock. Its own calls raise Busy meanwhile."""
+    """Other threads run beside the long calls of an engine that releases the interpreter's lock. Its own calls raise Busy meanwhile: sooner or
+    later, as no thread may run on a busy machine while one of these calls does."""
     sgt = module()
     count, procedure = 200_000, [1, [["find", 0, 0, 0, 0], ["put", 0, 0, ["sum", ["reg", 0], ["arg", 0]]]]]
+    missing = {"put", "run_bytes", "run_bytes beside itself", "cut"}
+    for _ in range(100):
+        missing -= calls_that_were_busy(sgt, count, procedure)
+        if not missing:
+            break
+    same("calls beside which none was busy", set(), missing)
+    with sgt.Engine.bare(1, 4_000_000) as engine:  # one that keeps the lock
+        calls = sgt.pack_calls([(engine.procedure(procedure), 1)] * count)
+        _, busy = busy_beside(sgt, lambda: engine.run_bytes(calls), lambda: len(engine))
+        same("calls that were busy, and the sum", ([0], count), (busy, engine.get(0, 0)))
 
-    def busy_beside(call, *others):
-        """How often each of the other calls has raised Busy while a thread made one, and what that returned."""
-        returned, busy = [], [0] * len(others)
-        thread = threading.Thread(target=lambda: returned.append(call()))
-        thread.start()
-        while thread.is_alive():
-            for at, other in enumerate(others):
-                try:
-                    other()
-                except sgt.Busy:
-                    busy[at] += 1
-        thread.join()
-        return returned, busy
 
+def busy_beside(sgt, call, *others):
+    """What a call returned that a thread made, and how often each of the other calls has raised Busy meanwhile."""
+    returned, busy = [], [0] * len(others)
+    thread = threading.Thread(target=lambda: returned.append(call()))
+    thread.start()
+    while thread.is_alive():
+        for at, other in enumerate(others):
+            try:
+                other()
+            except sgt.Busy:
+                busy[at] += 1
+    thread.join()
+    return returned, busy
+
+
+def calls_that_were_busy(sgt, count, procedure):
+    """Makes each of the long calls on a thread: those beside which another one was busy."""
     with sgt.Engine.bare(1, 4_000_000, releases=True) as engine:
         adds = engine.procedure(procedure)
         rows = [sgt.Row(1, number, number) for number in range(300_000)]
-        _, busy = busy_beside(lambda: engine.put(rows), engine.part)
-        same("whether a call beside `put` was busy, and its rows", (True, rows), (busy[0] > 0, engine.rows(1)))
+        _, beside_put = busy_beside(sgt, lambda: engine.put(rows), engine.part)
+        same("the rows", rows, engine.rows(1))
         calls, own = sgt.pack_calls([(adds, 1)] * count), []
 
         def runs_one_too():
@@ -507,21 +529,18 @@ def runs_calls_beside_threads(_):
                 return  # the other one has not begun, or has ended
             own.extend(engine.run_many([(adds, 1)]))
 
-        (outcomes,), busy = busy_beside(lambda: engine.run_bytes(calls), lambda: engine.get(0, 0), runs_one_too)
-        same("whether calls beside `run_bytes` were busy", [True] * 2, [it > 0 for it in busy])
+        (outcomes,), beside_run = busy_beside(sgt, lambda: engine.run_bytes(calls), lambda: engine.get(0, 0), runs_one_too)
         same("the calls that wrote, and their sum", (count, count + len(own)), (sum(sgt.wrote(outcomes)), engine.get(0, 0)))
         before = engine.rows()
-        _, busy = busy_beside(engine.cut, lambda: engine.get(0, 0))
-        same("after the cut", (True, 0, before), (busy[0] > 0, len(engine), engine.rows()))
-        same("what `close` returned", [None], busy_beside(engine.close)[0])
+        _, beside_cut = busy_beside(sgt, engine.cut, lambda: engine.get(0, 0))
+        same("after the cut", (0, before), (len(engine), engine.rows()))
+        same("what `close` returned", [None], busy_beside(sgt, engine.close)[0])
         try:
             raise Differs(f"a closed engine has {len(engine)} entries")
         except sgt.Closed:
             pass
-    with sgt.Engine.bare(1, 4_000_000) as engine:  # one that keeps the lock
-        calls = sgt.pack_calls([(engine.procedure(procedure), 1)] * count)
-        _, busy = busy_beside(lambda: engine.run_bytes(calls), lambda: len(engine))
-        same("calls that were busy, and the sum", ([0], count), (busy, engine.get(0, 0)))
+    names = ("put", "run_bytes", "run_bytes beside itself", "cut")
+    return {name for name, times in zip(names, (*beside_put, *beside_run, *beside_cut)) if times}
 
 
 def waits_with_deadlines_in_python(_):
