@@ -9,12 +9,12 @@ the witness is tested by what was observed. So are the levels of isolation, by t
 counts the cases.
 """
 
-import glob
 import itertools
 import json
 import os
 import random
 import re
+import shutil
 import subprocess
 import sys
 import xml.etree.ElementTree as ElementTree
@@ -26,6 +26,7 @@ from helpers.appends import (  # noqa: E402
     COMMITTED, Transaction, all_small, drawn, entries_of, keeps_time, lines_of, precedences, serial_orders, shortest_cycle)
 from helpers.cases import SECONDS, TESTS, Differs, same, run_cases  # noqa: E402
 from helpers.levels import drawn_split, is_committed_run, is_ordered_isolated, is_read_committed, is_read_uncommitted, is_snapshot_isolated, is_snapshot_run, is_write_order, keeps, may_have_no_write_order, may_stay_open  # noqa: E402
+from helpers.machines import Postgres  # noqa: E402
 from pictures import Drawing  # noqa: E402
 
 CLIENTS = TESTS.parent / "examples" / "clients"
@@ -989,15 +990,19 @@ def recorded_ones(program):
 
 
 # The databases of Debian's packages: their recorders, and a program of the server.
-DATABASES = {"postgres.py": "/usr/lib/postgresql/*/bin/initdb", "mariadb.py": "/usr/sbin/mariadbd"}
+def missing_of(name):
+    """What of a database is missing here, if anything is."""
+    if name == "postgres.py":
+        return Postgres.missing_server() or (None if shutil.which("psql") else "there is no psql on this machine")
+    return None if os.path.exists("/usr/sbin/mariadbd") else "there is no mariadbd on this machine"
 
 
 def records_databases(program):
     """What is recorded anew of each database that is here, at its level SERIALIZABLE, is serializable."""
     reported = []
-    for name, server in DATABASES.items():
-        if not glob.glob(server):
-            reported.append(f"{name} left out, {server} is missing")
+    for name in ("postgres.py", "mariadb.py"):
+        if why := missing_of(name):
+            reported.append(f"{name} left out, {why}")
             continue
         words = [CLIENTS / name, "--temporary", "--level", "serializable", "--transactions", "60"]
         ran = subprocess.run(words, capture_output=True, timeout=10 * SECONDS, check=False)

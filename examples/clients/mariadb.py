@@ -25,7 +25,7 @@ from recorder import Plan, record  # noqa: E402
 
 TABLE = "drop table if exists sgt_lists; create table sgt_lists (id int primary key, list text not null) engine=innodb"
 LEVELS = ("read uncommitted", "read committed", "repeatable read", "snapshot", "serializable")
-SECONDS = 60
+SECONDS = 600
 
 
 class Aborted(Exception):

@@ -84,7 +84,7 @@ def temporary():
             subprocess.run([*user, bin / program, *words], check=True, stdout=subprocess.DEVNULL, cwd=scratch)
 
         call("initdb", "-D", scratch / "data", "-A", "trust", "-U", "postgres")
-        call("pg_ctl", "-D", scratch / "data", "-o", f"-k {scratch} -h ''", "-l", scratch / "log", "-w", "start")
+        call("pg_ctl", "-D", scratch / "data", "-o", f"-k {scratch} -h ''", "-l", scratch / "log", "-t", "600", "-w", "start")
         try:
             yield ["-h", str(scratch), "-U", "postgres"]
         finally:
@@ -107,6 +107,7 @@ def main():
     options.add_argument("--seed", type=int, default=1)
     options.add_argument("--temporary", action="store_true", help="make a database in a folder of its own")
     chosen = options.parse_args()
+    os.environ["LC_ALL"] = "C"  # whatever language is set here, errors are read in English
     with (temporary() if chosen.temporary else given()) as where:
         words = ["psql", *where, "-X", "-q", "-A", "-t", "-v", "VERBOSITY=terse"]
         subprocess.run([*words, "-c", TABLE], check=True, stderr=subprocess.DEVNULL, stdout=subprocess.DEVNULL)

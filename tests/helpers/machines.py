@@ -260,14 +260,20 @@ class Postgres:
         return ["runuser", "-u", "postgres", "--"] if os.getuid() == 0 else []
 
     @staticmethod
-    def missing():
+    def missing_server():
+        """What is missing here, if anything is, but for what a client takes."""
         if not glob.glob(INITDB):
             return "there is no PostgreSQL on this machine"
-        try:
-            subprocess.run([*Postgres.as_user(), "test", "-x", tempfile.gettempdir()], **QUIET, check=True)
+        try:  # an installation may have been broken off
+            for words in (("test", "-x", tempfile.gettempdir()), (f"{os.path.dirname(sorted(glob.glob(INITDB))[-1])}/postgres", "--version")):
+                subprocess.run([*Postgres.as_user(), *words], **QUIET, check=True)
         except (OSError, subprocess.SubprocessError):
-            return f"no user postgres who can use {tempfile.gettempdir()} is on this machine"
-        return little_space(300) if python_with("psycopg2") else "there is no python3-psycopg2 on this machine"
+            return f"no user postgres who can use {tempfile.gettempdir()}, and run PostgreSQL, is on this machine"
+        return little_space(300)
+
+    @staticmethod
+    def missing():
+        return Postgres.missing_server() or (None if python_with("psycopg2") else "there is no python3-psycopg2 on this machine")
 
     def begin(self):
         self.folder.mkdir()
