@@ -14,6 +14,7 @@ last line counts them. With names of cases only those run.
 
 import ast
 import contextlib
+import fcntl
 import hashlib
 import json
 import marshal
@@ -65,6 +66,7 @@ class Server:
     """A server, killed at the end. Its day is always the same."""
 
     def __init__(self, *words, port=0, before=None, env=None, python=sys.executable):
+        self.folder, self.wanted = words[1], port
         command = [python, ADJUSTING, str(PAYMENTS / "payments.py"), *map(str, words), "--port", str(port)]
         self.process = subprocess.Popen(
             command, stdout=subprocess.PIPE, stderr=subprocess.PIPE, text=True, preexec_fn=before, env={**os.environ, **(env or {})}
@@ -86,6 +88,11 @@ class Server:
             self.process.communicate(timeout=SECONDS)  # until its front processes have ended, too
         except subprocess.TimeoutExpired:
             raise Differs("a front process goes on without the server") from None
+        self.await_end()
+
+    def await_end(self):
+        """Waits until a next one may have its folder, and its port if that was named: its processes end one after another."""
+        wait_until(lambda: is_free(self.folder, self.wanted), "a folder and a port that are free")
 
     def children(self):
         """The numbers of its front processes, and then of its copy that stores a snapshot, if there is one."""
@@ -122,7 +129,31 @@ class Server:
         """Ends it as a user does. Its status and its standard error."""
         self.process.send_signal(signal.SIGTERM)
         error = self.process.communicate(timeout=SECONDS)[1]
+        self.await_end()
         return self.process.returncode, error
+
+
+def is_free(folder, port):
+    """Whether no server has this folder, if there is one, and this port, if it is none of those that the system gives. Else an OSError."""
+    if folder:
+        own = os.open(folder, os.O_RDONLY)
+        try:
+            fcntl.flock(own, fcntl.LOCK_EX | fcntl.LOCK_NB)
+        finally:
+            os.close(own)
+    if port:
+        with socket.socket(socket.AF_UNIX) as name:
+            name.bind(f"\0payments:{port}")
+        socket.create_server(("127.0.0.1", port)).close()
+    return True
+
+
+def has_ended(number):
+    """Whether a process has ended, also if nobody has fetched its status, as the first process of a container may not."""
+    try:
+        return pathlib.Path(f"/proc/{number}/stat").read_text().rpartition(")")[2].split()[0] in "ZX"
+    except (FileNotFoundError, ProcessLookupError):
+        return True
 
 
 @contextlib.contextmanager
@@ -551,6 +582,7 @@ def second_server():
             if (status, out) != (1, "") or "Address already in use" not in error:
                 raise Differs(f"a second server: {status} {out} {error}")
         for number in range(5):
+            wait_until(lambda: is_free(None, port), "a port that is free")
             words = [sys.executable, ADJUSTING, str(PAYMENTS / "payments.py"), "serve", "--port", str(port)]
             both = [subprocess.Popen([*words, folder / f"{number}.{at}"], stdout=subprocess.PIPE, stderr=subprocess.PIPE, text=True) for at in range(2)]
             said = [process.stdout.readline() for process in both]
@@ -955,7 +987,7 @@ def failed_snapshot():
     with scratch() as folder:
         admin = folder / "j" / "admin"
         with Server("serve", folder / "j", "--accounts", 1000, "--cents", CENTS, **adjusted(CUT_AFTER=2000)) as server:
-            limits = resource.prlimit(server.process.pid, resource.RLIMIT_FSIZE, (40_000, resource.RLIM_INFINITY))
+            limits = resource.prlimit(server.process.pid, resource.RLIMIT_FSIZE, (40_000, resource.getrlimit(resource.RLIMIT_FSIZE)[1]))
             pay_some(server)
             health = wait_until(lambda: re.search(r"no snapshot.*", ask(admin, "health")["health"]), "a snapshot that can't be stored")[0]
             if not re.search(r"no snapshot .*\.snapshot: .*too large", health):
@@ -1026,7 +1058,7 @@ def renewals():
                 else:
                     load.run(server)
                     same("the status", status, server.process.wait(SECONDS))
-                wait_until(lambda: not pathlib.Path(f"/proc/{copy}").exists(), "a copy that has ended")  # noqa: B023
+                wait_until(lambda: has_ended(copy), "a copy that has ended")  # noqa: B023
             load.judge(*recovered(folder / "j")[:2])
     return f"{len(load.acknowledged)} acknowledged, {many} of them while the first snapshot was stored"
 
@@ -1230,13 +1262,13 @@ def forged_journal():
 
 def killed_fronts():
     """A front process that is killed ends the server, and with it the others. Nothing that was acknowledged is lost, and the port is free."""
-    draw, port = random.Random(11), 0
+    draw, (port,) = random.Random(11), free_ports(1)
     load = Load(draw)
     with scratch() as folder:
         words = ("serve", folder / "j", "--accounts", ACCOUNTS, "--cents", CENTS)
         for number in range(6):
             with Server(*words, port=port) as server:
-                port, fronts = server.port, server.fronts()  # the last one is of the administrators
+                fronts = server.fronts()  # the last one is of the administrators
                 same("how many front processes there are", FRONTS + 1, len(fronts))
                 load.run(server, until=load.kills(fronts[number % len(fronts)], draw.randrange(20, 300), draw.random() / 50))
                 error = error_at_end(server)
@@ -1351,27 +1383,38 @@ def is_dropped(client):
 
 def idle_clients():
     """More clients than the server may have files open: those beyond a cap wait, and get their turn when idle ones are dropped."""
-    files, request = 100, json.dumps({"balance": 1}).encode() + b"\n"
+    files = 100
     most = FRONTS * (files - OTHER_FILES)
+    for idle in (1, 10, 100):  # seconds: if a machine stalls for so long, the one who waits may be dropped before its line is read
+        if reply := reply_after_idle_ones(files, most, idle):
+            same("the reply to the one who waited", {"balance": 1, "has": 100_000}, reply)
+            return f"{most + 100} of them, at most {most} at a time"
+    raise Differs("the one who waited had no reply")
+
+
+def reply_after_idle_ones(files, most, idle):
+    """The reply to a client who waits until idle ones are dropped, or None if it was dropped itself."""
 
     def few_files():
         resource.setrlimit(resource.RLIMIT_NOFILE, (files, files))
 
+    reply = ""
     with scratch() as folder, contextlib.ExitStack() as clients:
-        server = clients.enter_context(Server("serve", folder / "j", "--accounts", 3, "--idle", 1, before=few_files))
-        idle = [clients.enter_context(server.connect()) for _ in range(most + 100)]
-        last = idle.pop()
-        last.sendall(request)
+        server = clients.enter_context(Server("serve", folder / "j", "--accounts", 3, "--idle", idle, before=few_files))
+        others = [clients.enter_context(server.connect()) for _ in range(most + 100)]
+        last = others.pop()
+        last.sendall(b'{"balance":1}\n')
         end = time.monotonic() + SECONDS
-        while idle and time.monotonic() < end:
-            idle = [client for client in idle if not is_dropped(client)]
+        while others and time.monotonic() < end:
+            others = [client for client in others if not is_dropped(client)]
             time.sleep(0.1)
-        same("clients that are idle, and not dropped", 0, len(idle))
-        same("the reply to the one who waited", {"balance": 1, "has": 100_000}, json.loads(last.makefile().readline()))
+        same("clients that are idle, and not dropped", 0, len(others))
+        with contextlib.suppress(ConnectionError):
+            reply = last.makefile().readline()
         # On a slow machine a second passes before it asks, so it may be dropped, too.
         wait_until(lambda: server.ask({"balance": 2}) == [{"balance": 2, "has": 100_000}], "a reply to a new client")
         same("the end", (0, ""), server.end())
-    return f"{most + 100} of them, at most {most} at a time"
+    return json.loads(reply) if reply else None
 
 
 # A program that writes the number of the last call, and then the rows, as a server recovers them from its folder and from a journal.
@@ -1695,6 +1738,7 @@ class Partitions:
     def kill(self, number):
         self.servers[number].process.kill()
         self.servers[number].process.wait(SECONDS)
+        self.servers[number].await_end()
 
     def admin(self, number, word, value, **more):
         return ask(self.folder / f"{number}" / "admin", word, value, **more)
