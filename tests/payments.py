@@ -303,6 +303,9 @@ def administration():
             same("health", {"health": "ok", "leads": True, "seq": 2}, {key: value for key, value in ask(admin, "health").items() if key != "batch"})
             same("the end", (0, ""), server.end())
             same("whether the socket is there", False, admin.exists())
+        for word in ("show", "verify"):
+            status, out, error = run(word, folder)
+            same(f"{word} where there is no journal", (1, "", True), (status, out, "there is no journal here" in error))
 
 
 def holds():

@@ -38,6 +38,8 @@ def batches(store: Store, journal: Journal) -> Iterator[tuple[Bank, int, Batch]]
             calls = unseal_batch(line, number + 1, bank.seq)
             yield bank, number, calls
             bank, number = applied(bank, calls), number + 1
+    if not bank.texts:
+        raise Unusable(f"{store.folder}: there is no journal here. If it is not in files, --journal says where it is")
     yield bank, number, []
 
 
@@ -66,8 +68,6 @@ def verify(words: argparse.Namespace, journal: Journal) -> None:
         if bank.seq + len(calls) > last and isinstance(calls, list):
             bank.replay(calls[: last - bank.seq])
             break
-    if not bank.texts:
-        raise Unusable(f"{words.folder}: there is no journal")
     if wanted and (last, wanted) != (bank.seq, hashlib.sha256(bank.rows()).hexdigest()):
         raise Unusable(f"the calls up to {bank.seq} do not give what is served after call {last}")
     print(f"calls {first} to {bank.seq} give the rows of {'the server' if wanted else 'each snapshot'}")
