@@ -1445,6 +1445,48 @@ def rows_after(journal, folder):
     return int(seq), tables(rows)
 
 
+# A program that asks etcd from two threads, and forks between as a server does that stores a snapshot.
+FORKS = """
+import contextlib, os, sys, threading
+sys.path.insert(0, sys.argv[1])
+from etcd_journal import Nodes, rpc
+from journal import BEAT, Away
+nodes, others = Nodes([sys.argv[2]]), Nodes([sys.argv[2]])
+
+def asks(its):
+    with contextlib.suppress(Away):  # on a slow machine
+        its.ask("Range", rpc.RangeRequest(key=b"x"))
+
+def goes_on():
+    while True:
+        with BEAT:
+            asks(others)
+
+threading.Thread(target=goes_on, daemon=True).start()
+for _ in range(int(sys.argv[3])):
+    asks(nodes)
+    with BEAT:
+        child = os.fork()
+    if child == 0:
+        os._exit(0)
+    os.waitpid(child, 0)
+print("done", flush=True)
+os._exit(0)
+"""
+
+
+def forks():
+    """A server that speaks to etcd by several threads forks without waiting for any of them."""
+    if why := Etcd.missing():
+        return f"left out: {why}"
+    count = 200
+    with scratch() as folder, running(Etcd, folder) as etcd:
+        words = [etcd.python, "-c", FORKS, PAYMENTS, f"127.0.0.1:{etcd.ports[0]}", str(count)]
+        ran = subprocess.run(words, capture_output=True, text=True, timeout=SECONDS, check=False)
+        same("what it says", "done\n", ran.stdout + ran.stderr)
+    return f"{count} forks"
+
+
 # What ends a server that a slow machine has stalled for longer than its lease: it is started again.
 STALLED = "another primary leads|the journal is away"
 NEVER = {"LEASE": SECONDS, "PATIENCE": SECONDS}  # is a server stalled for so long
@@ -1958,7 +2000,7 @@ def main():
     cases += [full_disk, failing_fsync, large_snapshots, pieces, deletions, failed_snapshot, little_space, renewals, huge_pages, begun_snapshots]
     cases += [jumping_clock, other_procedures, bad_procedures]
     cases += [killed_fronts, vanished_clients, leaving_clients, slow_clients, many_lines, idle_clients]
-    cases += [over_etcd, dying_nodes, ended_while_away, partitions, over_redis, forgetful_redis, redis_replicas, over_postgresql, forgetful_postgresql, postgresql_standby, crash_test]
+    cases += [forks, over_etcd, dying_nodes, ended_while_away, partitions, over_redis, forgetful_redis, redis_replicas, over_postgresql, forgetful_postgresql, postgresql_standby, crash_test]
     return run_cases([case for case in cases if not names or case.__name__ in names], of="payments")
 
 

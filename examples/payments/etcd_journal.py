@@ -11,11 +11,12 @@ import os
 from typing import Any, Iterable
 from urllib.parse import SplitResult
 
-import grpc
-from etcd3 import etcdrpc as rpc
+os.environ["GRPC_ENABLE_FORK_SUPPORT"] = "0"  # else a fork may wait for a thread of grpc for ever. A process that forked speaks to no node
+import grpc  # noqa: E402
+from etcd3 import etcdrpc as rpc  # noqa: E402
 
-from bank import Unusable
-from journal import AT_ONCE, LEASE, TRY, Away, Fenced, from_number, keep_alive, needed
+from bank import Unusable  # noqa: E402
+from journal import AT_ONCE, LEASE, TRY, Away, Fenced, from_number, keep_alive, needed  # noqa: E402
 
 # Codes of errors that do not pass: the request is wrong, or there is no authority.
 REFUSED = {grpc.StatusCode[it] for it in ("INVALID_ARGUMENT", "FAILED_PRECONDITION", "OUT_OF_RANGE", "UNIMPLEMENTED", "UNAUTHENTICATED")}
@@ -77,10 +78,9 @@ class EtcdJournal:
         key = self._key("leader")
         if not self._found(key):
             self._put(key, self._nonce, [(key, 0)], lease=self._ask("LeaseGrant", rpc.LeaseGrantRequest(TTL=LEASE)).ID)
-        for leader in self._found(key):
-            if leader.value == self._nonce:
-                nodes, request, self._term = Nodes(self.nodes), rpc.LeaseKeepAliveRequest(ID=leader.lease), leader.create_revision
-                keep_alive(lambda: nodes.ask("LeaseKeepAlive", request))
+        for leader in [it for it in self._found(key) if it.value == self._nonce]:
+            nodes, request, self._term = Nodes(self.nodes), rpc.LeaseKeepAliveRequest(ID=leader.lease), leader.create_revision
+            keep_alive(lambda: nodes.ask("LeaseKeepAlive", request))
         return self._term >= 0
 
     def append(self, number: int, data: bytes) -> None:
