@@ -1447,7 +1447,7 @@ def rows_after(journal, folder):
 
 # A program that asks etcd from two threads, and forks between as a server does that stores a snapshot.
 FORKS = """
-import contextlib, os, sys, threading
+import contextlib, os, sys, threading, time
 sys.path.insert(0, sys.argv[1])
 from etcd_journal import Nodes, rpc
 from journal import BEAT, Away
@@ -1461,6 +1461,7 @@ def goes_on():
     while True:
         with BEAT:
             asks(others)
+        time.sleep(0.01)
 
 threading.Thread(target=goes_on, daemon=True).start()
 for _ in range(int(sys.argv[3])):
