@@ -12,7 +12,7 @@ C_SOURCES = TESTS / "c"
 # Limits of time, which only what has no end passes, on any machine: of a run of a program, and of a case. A case that passes its limit
 # ends the test program with status 1, and with no counts in its last line.
 SECONDS = 600
-CASE_SECONDS = 4_000
+CASE_SECONDS = 10_000
 
 # No program makes that many allocations.
 FOREVER = 10**18
