@@ -3,17 +3,19 @@
 import hashlib
 import json
 import marshal
+import os
 import select
+import threading
 import time
-from concurrent.futures import Future, ThreadPoolExecutor
-from multiprocessing.connection import Connection, Pipe
+from multiprocessing.connection import Connection
+from queue import SimpleQueue
 from typing import Any, Optional, Sequence
 
 from bank import NO_PROCEDURE, ROW, Procedure
 from chain import PAUSE, Chain
 from sgt import pack_calls, unpack_calls
 
-QUICK = 0.0005  # seconds of an append. To have a thread make it costs less than it gains only where it takes longer
+QUICK = 0.00003  # seconds of an append. To have a thread make it costs less than it gains only where it takes longer
 IDLE = 0.1  # seconds without a request, after which the journal notes what is safe
 # What ran at once: the entries of calls that wrote, or none if nothing goes to the journal; which front asked, if one did, and what it gets.
 Group = tuple[Optional[list[str]], Optional[Connection], bytes]
@@ -26,8 +28,9 @@ class Server:
         self.chain, self.fronts, self.procedures = chain, fronts, procedures
         # The entries of calls that ran, and are in no group yet; what has run; what is being made safe; and the fronts of the last batch.
         self.entries, self.groups, self.appended, self.latest = list[str](), list[Group](), list[Group](), set[Optional[Connection]]()
-        self.appender, (self.is_safe, self.says_so) = ThreadPoolExecutor(1), Pipe(duplex=False)
-        self.appends: Optional[Future[None]] = None  # an append by a thread, which says by a byte that it is done
+        # What a thread is to append, which says by a byte that it is done: 0.02 ms less than by an executor. What it has failed with.
+        self.work, (self.is_safe, self.says_so), self.is_in_thread = SimpleQueue[list[list[str]]](), os.pipe(), False
+        self.failed: Optional[Exception] = None
         # The trouble of the last snapshot; and the day of the bank on which no old id was left.
         self.is_marked, self.day, self.trouble, self.forgot = True, -1, "", -1
         # When the last replies were sent, and how many fronts the last two batches were of. Since the start: calls, batches, and their seconds.
@@ -36,6 +39,7 @@ class Server:
         self.writers = {chain.bank.numbers[name] for name, it in procedures.items() if it.writes}
         for front in fronts:
             front.send_bytes(marshal.dumps(chain.bank.numbers))
+        threading.Thread(target=self.append_in_thread, daemon=True).start()
 
     def turn(self) -> None:
         """Waits for requests, runs what has come in, and replies to what is safe."""
@@ -86,11 +90,19 @@ class Server:
             self.appended, self.groups = self.groups, []
             parts = [it for it, _, _ in self.appended if it is not None]
             if self.appending > QUICK * self.batches:
-                self.appends = self.appender.submit(self.append, parts)
-                self.appends.add_done_callback(lambda _: self.says_so.send_bytes(b"."))
+                self.is_in_thread = True
+                self.work.put(parts)
             else:
                 self.append(parts)
                 self.reply()
+
+    def append_in_thread(self) -> None:
+        while not self.failed:
+            try:
+                self.append(self.work.get())
+            except Exception as why:
+                self.failed = why
+            os.write(self.says_so, b".")
 
     def append(self, parts: list[list[str]]) -> None:
         begin = time.monotonic()
@@ -102,9 +114,11 @@ class Server:
 
     def reply(self) -> None:
         """Replies to what is safe, once it is. Nothing is told before: a refusal or a balance may rest on a call that ran before it."""
-        if self.appends:
-            self.is_safe.recv_bytes()
-            self.appends = self.appends.result()  # none, or raises what the append has failed with
+        if self.is_in_thread:
+            os.read(self.is_safe, 1)
+            self.is_in_thread = False
+        if self.failed:
+            raise self.failed
         for front, reply in [(front, reply) for _, front, reply in self.appended if front]:
             front.send_bytes(reply)
         self.asked = len((fronts := {front for _, front, _ in self.appended}) | self.latest)
