@@ -51,7 +51,7 @@ from chain import Chain, seal_batch  # noqa: E402
 from file_journal import FileJournal  # noqa: E402
 from front import AT_ONCE, FRONTS, OTHER_FILES, PART, Front  # noqa: E402
 from hundred_partitions import SHARES, Simulation, accounts_of, partition_of  # noqa: E402
-from journal import Store, store, unseal  # noqa: E402
+from journal import Fenced, Store, store, unseal  # noqa: E402
 from lines import LONGEST, Reader  # noqa: E402
 from sgt import Kind, pack_calls, unpack_calls  # noqa: E402
 
@@ -452,7 +452,7 @@ def removals():
     calls = [("day", day), ("pay", 1, 1, 2, 100), ("pay", 2, 1, 2, 10**7), ("hold", 3, 1, 2, 100), ("hold", 4, 1, 2, 100), ("capture", 4, 2)]
     calls += [("hold", 5, 1, 2, 100), ("void", 5, 2), ("pay", 6, 1, 2, 100), ("refund", 6, 2), ("hold", 7, 1, 2, 100), ("capture", 7, 2), ("refund", 7, 2)]
     calls += [("pay", 8, 2, 3, 100), ("note", 8, 2, -1, 0), ("credit", 9, 1, 2, 100), ("credit", 10, 1, 9, 100), ("hold", 11, 1, 2, 10**7), ("pay", 12, 4, 3, 7)]
-    calls += [("note", 9, 1, 1, 1), ("set_day", day + 1), ("set_day", day + 91), *[("forget",)] * 12]
+    calls += [("note", 9, 1, 1, 1), ("pay", 13, 10**15 - 1, 1, 5), ("hold", 14, 1 - 10**15, 1, 5), ("set_day", day + 1), ("set_day", day + 91), *[("forget",)] * 14]
     bank.replay(calls)
     there, forgets, missing = {row[:2] for row in opened}, set(), []
     for place in range(len(bank.engine)):
@@ -1488,6 +1488,76 @@ def forks():
     return f"{count} forks"
 
 
+class Remembered:
+    """A journal in memory, which any server may lead: what fences a primary is that a batch has the number of its next one."""
+
+    report = ""
+
+    def __init__(self):
+        self.batches = []
+
+    def lead(self):
+        return True
+
+    def append(self, number, data):
+        if number <= len(self.batches):
+            raise Fenced(f"there is a batch {number}")
+        self.batches.append(data)
+
+    def read(self, number):
+        return self.batches[number - 1 :]
+
+    def stored(self, server, number, after):
+        pass
+
+
+def promotion():
+    """A new primary begins with an empty batch, also if nobody has asked it yet: so the one before it can append nothing more."""
+    with scratch() as folder:
+        journal, opening = Remembered(), {"procedures": PROCEDURES, "accounts": ACCOUNTS, "cents": CENTS}
+        old, new = (Chain(Store(folder / name), journal, opening, name) for name in ("old", "new"))
+        old.start()
+        old.append(['["day", 20000]'])
+        new.start()
+        same("the batches", [[1, 1, opening], [2, 1, [["day", 20_000]]], [3, 2, []]], [unseal(it) for it in journal.batches])
+        same("who leads, and after which call", (True, 1, True), (new.leads, new.bank.seq, old.leads))
+        with contextlib.suppress(Fenced):
+            old.append(['["day", 20001]'])
+            raise Differs("a primary that was replaced has appended a batch")
+        new.append(['["day", 20001]'])
+        same("the last batch", [4, 2, [["day", 20_001]]], unseal(journal.batches[-1]))
+
+
+# A program that asks etcd once, and writes which node it has asked.
+ASKS = """
+import sys
+sys.path.insert(0, sys.argv[1])
+from etcd_journal import Nodes, rpc
+nodes = Nodes(sys.argv[2:])
+nodes.ask("Range", rpc.RangeRequest(key=b"x"))
+print(nodes.nodes[0])
+"""
+
+
+def asked_node():
+    """A server asks the node of etcd that leads, in whatever order they are named, and when that one is killed the next that leads."""
+    if why := Etcd.missing():
+        return f"left out: {why}"
+    with scratch() as folder, running(Etcd, folder) as etcd:
+        nodes = [f"127.0.0.1:{port}" for port in etcd.ports[:3]]
+
+        def asks_leader():
+            """Whether the leader is asked first, by each order of the nodes. On a slow machine another one may lead meanwhile."""
+            words = [[etcd.python, "-c", ASKS, PAYMENTS, *nodes[at:], *nodes[:at]] for at in range(3)]
+            leaders = [nodes[it] for it in [etcd.leader()] if it is not None]
+            asked = [subprocess.run(it, capture_output=True, text=True, timeout=SECONDS, check=False).stdout.strip() for it in words]
+            return asked == leaders * 3
+
+        wait_until(asks_leader, "a leader that is asked")
+        etcd.kill(wait_until(lambda: [it for it in [etcd.leader()] if it is not None], "a leader")[0])
+        wait_until(asks_leader, "the next leader that is asked")
+
+
 # What ends a server that a slow machine has stalled for longer than its lease: it is started again.
 STALLED = "another primary leads|the journal is away"
 NEVER = {"LEASE": SECONDS, "PATIENCE": SECONDS}  # is a server stalled for so long
@@ -2001,7 +2071,7 @@ def main():
     cases += [full_disk, failing_fsync, large_snapshots, pieces, deletions, failed_snapshot, little_space, renewals, huge_pages, begun_snapshots]
     cases += [jumping_clock, other_procedures, bad_procedures]
     cases += [killed_fronts, vanished_clients, leaving_clients, slow_clients, many_lines, idle_clients]
-    cases += [forks, over_etcd, dying_nodes, ended_while_away, partitions, over_redis, forgetful_redis, redis_replicas, over_postgresql, forgetful_postgresql, postgresql_standby, crash_test]
+    cases += [promotion, forks, asked_node, over_etcd, dying_nodes, ended_while_away, partitions, over_redis, forgetful_redis, redis_replicas, over_postgresql, forgetful_postgresql, postgresql_standby, crash_test]
     return run_cases([case for case in cases if not names or case.__name__ in names], of="payments")
 
 

@@ -69,9 +69,8 @@ def load_procedures(folder: pathlib.Path) -> dict[str, Procedure]:
             procedure = Procedure(path.stem, json.loads(path.read_text()))
         except (ValueError, LookupError, TypeError, AttributeError) as why:
             raise Unusable(f"{path}: {type(why).__name__}: {why}") from None
-        for other in found.values():
-            if procedure.request and set(other.request) == set(procedure.request):
-                raise Unusable(f"{path}: {other.name}.json has the same keys in its request")
+        if others := [it.name for it in found.values() if procedure.request and set(it.request) == set(procedure.request)]:
+            raise Unusable(f"{path}: {others[0]}.json has the same keys in its request")
         found[path.stem] = procedure
     return found
 

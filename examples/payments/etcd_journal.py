@@ -7,6 +7,7 @@
 etcd's JSON gateway needs no package, but a batch takes twice as long by it.
 """
 
+import contextlib
 import os
 from typing import Any, Iterable
 from urllib.parse import SplitResult
@@ -25,7 +26,7 @@ OPTIONS = (("grpc.max_receive_message_length", -1), ("grpc.max_reconnect_backoff
 
 
 class Nodes:
-    """The nodes of etcd: one is asked until it fails, and then the next one."""
+    """The nodes of etcd: the one that leads them is asked until it fails, and then another one. By the leader a batch is safe sooner."""
 
     def __init__(self, nodes: list[str]) -> None:
         self.nodes = nodes
@@ -33,9 +34,9 @@ class Nodes:
 
     def ask(self, name: str, request: Any) -> Any:
         """What etcd replies to a request. `Away` if no node does."""
-        why = ""
-        for _ in self.nodes:
+        for left in range(len(self.nodes), 0, -1):  # so many have not failed
             if not self._channel:
+                self.nodes = sorted(self.nodes[:left], key=self._leads, reverse=True) + self.nodes[left:]
                 self._channel = grpc.insecure_channel(self.nodes[0], OPTIONS)
                 self._calls = {**vars(rpc.KVStub(self._channel)), **vars(rpc.LeaseStub(self._channel))}
             try:
@@ -46,9 +47,14 @@ class Nodes:
                 why = f"{error.code().name}: {error.details()}"
                 if error.code() in REFUSED:
                     raise Unusable(f"etcd: {why}") from None
-            self._channel = self._channel.close()
-            self.nodes = self.nodes[1:] + self.nodes[:1]
+            self._channel, self.nodes = self._channel.close(), self.nodes[1:] + self.nodes[:1]
         raise Away(f"etcd: {why}")
+
+    def _leads(self, node: str) -> bool:
+        """Whether this node leads the others, as far as it knows and says so soon."""
+        with contextlib.suppress(grpc.RpcError), grpc.insecure_channel(node, OPTIONS) as channel:
+            return (lambda it: bool(it.leader == it.header.member_id))(rpc.MaintenanceStub(channel).Status(rpc.StatusRequest(), timeout=TRY / 5))
+        return False
 
 
 class EtcdJournal:

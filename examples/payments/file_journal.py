@@ -78,8 +78,7 @@ class FileJournal:
             threading.Thread(target=path.unlink).start()
 
     def _begin(self, number: int) -> None:
-        path = self.folder / f"{number:015}.batches"
-        path.touch(0o600)
+        (path := self.folder / f"{number:015}.batches").touch(0o600)
         self._open(path)
 
     def _open(self, path: pathlib.Path) -> BinaryIO:
@@ -106,8 +105,7 @@ def whole_lines(path: pathlib.Path) -> tuple[list[bytes], bytes]:
     for place, line in enumerate(lines):
         if line and not is_whole(line):
             if any(map(is_whole, lines[place:])):
-                number = int(path.stem) + len(found)
-                raise Unusable(f"{path}: the line at byte {at} is damaged; batch {number} stood there, and it was safe")
+                raise Unusable(f"{path}: the line at byte {at} is damaged; batch {int(path.stem) + len(found)} stood there, and it was safe")
             break
         found += [line] if line else []
         at += len(line) + 1

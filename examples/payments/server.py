@@ -46,11 +46,10 @@ class Server:
             if not ready:
                 self.mark()
             while ready:
-                for it in ready:
-                    if it is self.is_safe:
-                        self.reply()
-                    else:
-                        self.serve(it, *marshal.loads(it.recv_bytes()))
+                if self.is_safe in ready:
+                    self.reply()
+                for front in [it for it in ready if it is not self.is_safe]:
+                    self.serve(front, *marshal.loads(front.recv_bytes()))
                 # What has come in meanwhile shares the append, unless to run this has taken as long: then fronts had better have these replies.
                 is_early = (time.monotonic() - begin) * self.batches < self.appending
                 ready = select.select([self.is_safe, *self.fronts], (), (), self.rest())[0] if is_early else []

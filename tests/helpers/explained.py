@@ -88,7 +88,7 @@ def name_of(procedure):
 
 def code_text(procedure, code):
     """A code with its words."""
-    meaning = "a result is not a value" if code == 1000 else MEANINGS.get(code) if procedure < 5 else None
+    meaning = "a result is not a value, or a divisor is 0" if code == 1000 else MEANINGS.get(code) if procedure < 5 else None
     return f"code {code} ({meaning})" if meaning else f"code {code}"
 
 
