@@ -7,10 +7,10 @@ use Rattle.sgt_appends.specs.declared.transaction.Transaction.{Transaction}
 use Rattle.sgt_appends.specs.declared.transaction.Status.TheVariants.{Committed}
 use Rattle.sgt_appends.specs.Lists.{Has, IsOnce, StandsBefore}
 use Rattle.sgt_appends.specs.Runs.{Contents, nothing, after_all, operations_of, Ended, MayRun, IsRun, IsSerialRun}
-use Rattle.sgt_appends.specs.Precedences.{appended, Appends, HasReadAfter, Reads, AppendsOnce, WasSeen, WasMissed, WereSeen}
+use Rattle.sgt_appends.specs.Precedences.{appended, Appends, HasReadAfter, Reads, HasSeen, AppendsOnce, WasSeen, WasMissed, WereSeen}
 use Rattle.sgt_appends.specs.Guides.{appended_by}
 use Rattle.sgt_appends.specs.Orders.{UnknownOnlyAppend, IsClean, AllClean, IsAlong}
-use Rattle.sgt_appends.proofs.Words.{Has-append_left, Has-append_right, Has-append_cases, StandsBefore-back, StandsBefore-front, StandsBefore-cons, StandsBefore-cases, StandsBefore-has, IsOnce-front, not_both, same_lists, stand_somehow}
+use Rattle.sgt_appends.proofs.Words.{Has-append_left, Has-append_right, Has-append_cases, StandsBefore-back, StandsBefore-front, StandsBefore-cons, StandsBefore-cases, StandsBefore-has, IsOnce-front, not_both, same_lists, stand_somehow, across}
 use Rattle.sgt_appends.proofs.Running.{left_by, sees_all, appended_has, has_appended}
 use Rattle.sgt_appends.proofs.Faulty.{appended_once, in_its_order}
 
@@ -32,16 +32,11 @@ pub as_these : (h : List Transaction) (k : ℕ) (ts : List ℕ) (t u first secon
     → Appends h u k second → StandsBefore (appended_by h k ts) first second
 as_these h k [] t u first second stand one other = absurd (StandsBefore-has [] t u stand).0
 as_these h k (v ∷ ts) t u first second stand one other = elim (StandsBefore-cases v ts t u stand) [
-  | inl w ↦ joined (appended k (operations_of h v)) (appended_by h k ts) first second
+  | inl w ↦ across (appended k (operations_of h v)) (appended_by h k ts) first second
       (subst (λ x. Appends h x k first) (sym w.0) one) (appended_has h k ts u second w.1 other)
   | inr w ↦ StandsBefore-front (appended k (operations_of h v)) (appended_by h k ts) first second
       (as_these h k ts t u first second w one other)
 ]
-  where
-    joined : (xs ys : List ℕ) (x y : ℕ) → Has xs x → Has ys y → StandsBefore (xs ++ ys) x y
-    joined [] ys x y has there = absurd has
-    joined (z ∷ xs) ys x y (inl same) there = ([], xs ++ ys, ap (λ w. w ∷ (xs ++ ys)) same, Has-append_right xs ys y there)
-    joined (z ∷ xs) ys x y (inr later) there = StandsBefore-cons z (xs ++ ys) x y (joined xs ys x y later there)
 
 pub has_or_not : (xs : List ℕ) (x : ℕ) → Has xs x ⊎ (¬ Has xs x)
 has_or_not [] x = inr (λ has. has)
@@ -80,20 +75,49 @@ is_before (v ∷ before) ts t u once stand = elim (StandsBefore-cases v (before 
   | inr w ↦ inr (is_before before ts t u once.1 w)
 ]
 
--- a read of t sees what those before it append
-pub saw_those : (h : List Transaction) (order before ts : List ℕ) (t k : ℕ) (own seen : List ℕ) → AppendsOnce h → IsAlong h order
-    → order ≡ before ++ t ∷ ts → Ended h t Committed → Reads h t k own seen → IsClean h t k own seen
-    → seen ≡ appended_by h k before ++ own
-saw_those h order before ts t k own seen once is same committed reads clean =
+-- what a committed reader saw at a key shows of the appenders of two values
+pub saw_value : (h : List Transaction) (r k t v : ℕ) (seen : List ℕ) → HasSeen h r k seen → Appends h t k v → Has seen v → WasSeen h t r
+saw_value h r k t v seen has_seen appends has =
+    record { key = k; value = v; seen = seen; appends = appends; has_seen = has_seen; has = has }
+
+pub missed_value : (h : List Transaction) (r k u v : ℕ) (seen : List ℕ) → HasSeen h r k seen → Appends h u k v → ¬ Has seen v → WasMissed h r u
+missed_value h r k u v seen has_seen appends has_not =
+    record { key = k; value = v; seen = seen; appends = appends; has_seen = has_seen; has_not = has_not }
+
+pub saw_both : (h : List Transaction) (r k t u v w : ℕ) (seen : List ℕ) → HasSeen h r k seen → Appends h t k v → Appends h u k w
+    → StandsBefore seen v w → WereSeen h t u
+saw_both h r k t u v w seen has_seen one other before = record {
+  reader = r;
+  key = k;
+  first = v;
+  second = w;
+  seen = seen;
+  appends_first = one;
+  appends_second = other;
+  has_seen = has_seen;
+  before = before;
+}
+
+-- What is needed of a list of transactions: it holds those whose values a clean read of t saw, and those of the others
+-- that it missed stand elsewhere.
+pub record IsBase (h : List Transaction) (before : List ℕ) (t k : ℕ) (own seen : List ℕ) : Type 0 where
+  pub once : IsOnce before
+  pub not_t : ¬ Has before t
+  pub seen_in : (u value : ℕ) → MayRun h u → u ≢ t → Appends h u k value → Has seen value → Has before u
+  pub missed_out : (u value : ℕ) → Has before u → Appends h u k value → ¬ (¬ Has seen value)
+  pub in_order : (u w first second : ℕ) → Has before u → Has before w → u ≢ w → Appends h u k first → Appends h w k second
+      → StandsBefore seen first second → StandsBefore before u w
+
+-- a clean read of t sees what those of its base append
+pub saw_base : (h : List Transaction) (before : List ℕ) (t k : ℕ) (own seen : List ℕ) → AppendsOnce h → Reads h t k own seen
+    → IsClean h t k own seen → IsBase h before t k own seen → seen ≡ appended_by h k before ++ own
+saw_base h before t k own seen once reads clean is =
     clean.ends ∙ ap (λ xs. xs ++ own)
     (same_lists clean.base (appended_by h k before) (IsOnce-front clean.base own both_once)
-    (appended_once h k before once (IsOnce-front before (t ∷ ts) order_once)) have has stand)
+    (appended_once h k before once is.once) have has stand)
   where
     both_once : IsOnce (clean.base ++ own)
     both_once = subst (λ xs. IsOnce xs) clean.ends clean.once
-
-    order_once : IsOnce (before ++ t ∷ ts)
-    order_once = subst (λ xs. IsOnce xs) same is.once
 
     own_are : (value : ℕ) → Has own value → Appends h t k value
     own_are value there =
@@ -103,22 +127,12 @@ saw_those h order before ts t k own seen once is same committed reads clean =
     base_seen : (value : ℕ) → Has clean.base value → Has seen value
     base_seen value there = subst (λ xs. Has xs value) (sym clean.ends) (Has-append_left clean.base own value there)
 
-    -- the appender of a value of the base comes before t
-    comes : (value : ℕ) → Has clean.base value → (u : ℕ) × Has before u × Appends h u k value × MayRun h u
+    comes : (value : ℕ) → Has clean.base value → (u : ℕ) × Has before u × Appends h u k value
     comes value there =
         let who = clean.written value (base_seen value there) in
         let differ : who.0 ≢ t = λ e. apart clean.base own value both_once there
         (clean.not_ahead value (base_seen value there) (subst (λ u. Appends h u k value) e who.1)) in
-        let seen_it : WasSeen h who.0 t = record {
-          key = k;
-          value = value;
-          seen = seen;
-          appends = who.1;
-          has_seen = (committed, (own, reads));
-          has = base_seen value there;
-        } in
-        let stands : StandsBefore order who.0 t = is.along who.0 t who.2 (is.committed t committed) (differ, inl seen_it) in
-        (who.0, is_before before ts t who.0 order_once (subst (λ xs. StandsBefore xs who.0 t) same stands), who.1, who.2)
+        (who.0, is.seen_in who.0 value who.2 differ who.1 (base_seen value there), who.1)
 
     have : (value : ℕ) → Has clean.base value → Has (appended_by h k before) value
     have value there = let who = comes value there in appended_has h k before who.0 value who.1 who.2
@@ -126,26 +140,13 @@ saw_those h order before ts t k own seen once is same committed reads clean =
     has : (value : ℕ) → Has (appended_by h k before) value → Has clean.base value
     has value there =
         let who = has_appended h k before value there in
-        let not_t : who.0 ≢ t = λ e. apart before (t ∷ ts) who.0 order_once who.1 (inl (sym e)) in
+        let not_t : who.0 ≢ t = λ e. is.not_t (subst (λ u. Has before u) e who.1) in
         elim (has_or_not seen value) [
           | inl w ↦ elim (Has-append_cases clean.base own value (subst (λ xs. Has xs value) clean.ends w)) [
             | inl v ↦ v
             | inr v ↦ absurd (not_t (once.by_one who.0 t k value who.2 (own_are value v)))
           ]
-          | inr w ↦
-              let missed : WasMissed h t who.0 = record {
-                key = k;
-                value = value;
-                seen = seen;
-                appends = who.2;
-                has_seen = (committed, (own, reads));
-                has_not = w;
-              } in
-              let stands : StandsBefore order t who.0 = is.along t who.0 (inl committed)
-              (subst (λ xs. Has xs who.0) (sym same) (Has-append_left before (t ∷ ts) who.0 who.1))
-              ((λ e. not_t (sym e)), inr (inl missed)) in
-              absurd (not_both (before ++ t ∷ ts) who.0 t order_once (stands_before before ts t who.0 who.1)
-              (subst (λ xs. StandsBefore xs t who.0) same stands))
+          | inr w ↦ absurd (is.missed_out who.0 value who.1 who.2 w)
         ]
 
     stand : (first second : ℕ) → StandsBefore clean.base first second → StandsBefore (appended_by h k before) first second
@@ -162,28 +163,45 @@ saw_those h order before ts t k own seen once is same committed reads clean =
                 | inl w ↦ in_its_order h k before one.0 first second one.1 w
                 | inr w ↦ absurd (clean.in_order one.0 second first w in_seen)
               ]
-          | inr differ ↦
-              let were : WereSeen h one.0 other.0 = record {
-                reader = t;
-                key = k;
-                first = first;
-                second = second;
-                seen = seen;
-                appends_first = one.2;
-                appends_second = other.2;
-                has_seen = (committed, (own, reads));
-                before = in_seen;
-              } in
-              let stands : StandsBefore (before ++ t ∷ ts) one.0 other.0 =
-              subst (λ xs. StandsBefore xs one.0 other.0) same (is.along one.0 other.0 one.3
-              (subst (λ xs. Has xs other.0) (sym same) (Has-append_left before (t ∷ ts) other.0 other.1))
-              (differ, inr (inr were))) in
-              elim (stand_somehow before one.0 other.0 one.1 other.1 differ) [
-                | inl w ↦ as_these h k before one.0 other.0 first second w one.2 other.2
-                | inr w ↦ absurd (not_both (before ++ t ∷ ts) one.0 other.0 order_once stands
-                    (StandsBefore-back before (t ∷ ts) other.0 one.0 w))
-              ]
+          | inr differ ↦ as_these h k before one.0 other.0 first second
+              (is.in_order one.0 other.0 first second one.1 other.1 differ one.2 other.2 in_seen) one.2 other.2
         ]
+
+-- a read of t sees what those before it append
+pub saw_those : (h : List Transaction) (order before ts : List ℕ) (t k : ℕ) (own seen : List ℕ) → AppendsOnce h → IsAlong h order
+    → order ≡ before ++ t ∷ ts → Ended h t Committed → Reads h t k own seen → IsClean h t k own seen
+    → seen ≡ appended_by h k before ++ own
+saw_those h order before ts t k own seen once is same committed reads clean =
+    saw_base h before t k own seen once reads clean (record {
+      once = IsOnce-front before (t ∷ ts) order_once;
+      not_t = λ there. apart before (t ∷ ts) t order_once there (inl refl);
+      seen_in = λ u value may differ appends has.
+          let stands : StandsBefore order u t = is.along u t may (is.committed t committed)
+          (differ, inl (saw_value h t k u value seen has_seen appends has)) in
+          is_before before ts t u order_once (subst (λ xs. StandsBefore xs u t) same stands);
+      missed_out = λ u value there appends has_not.
+          let differ : t ≢ u = λ e. apart before (t ∷ ts) u order_once there (inl e) in
+          let stands : StandsBefore order t u = is.along t u (inl committed) (in_order u there)
+          (differ, inr (inl (missed_value h t k u value seen has_seen appends has_not))) in
+          not_both (before ++ t ∷ ts) u t order_once (stands_before before ts t u there) (subst (λ xs. StandsBefore xs t u) same stands);
+      in_order = λ u w first second has_u has_w differ one other stand.
+          let stands : StandsBefore order u w = is.along u w (is.may_run u (in_order u has_u)) (in_order w has_w)
+          (differ, inr (inr (saw_both h t k u w first second seen has_seen one other stand))) in
+          elim (stand_somehow before u w has_u has_w differ) [
+            | inl x ↦ x
+            | inr x ↦ absurd (not_both (before ++ t ∷ ts) u w order_once (subst (λ xs. StandsBefore xs u w) same stands)
+                (StandsBefore-back before (t ∷ ts) w u x))
+          ];
+    })
+  where
+    order_once : IsOnce (before ++ t ∷ ts)
+    order_once = subst (λ xs. IsOnce xs) same is.once
+
+    has_seen : HasSeen h t k seen
+    has_seen = (committed, (own, reads))
+
+    in_order : (u : ℕ) → Has before u → Has order u
+    in_order u there = subst (λ xs. Has xs u) (sym same) (Has-append_left before (t ∷ ts) u there)
 
 -- the rest of the order runs after what comes before it
 pub rest_along : (h : List Transaction) (order before ts : List ℕ) (c : Contents) → AppendsOnce h → UnknownOnlyAppend h → AllClean h

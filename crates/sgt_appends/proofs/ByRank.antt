@@ -3,9 +3,9 @@ use Rattle.std.proofs.Common.{◌<◌, ℕ, List, [], ◌∷◌, subst, inl, inr
 use Rattle.sgt_appends.specs.declared.transaction.Transaction.{Transaction}
 use Rattle.sgt_appends.specs.Lists.{Has, StandsBefore, Rises}
 use Rattle.sgt_appends.specs.Runs.{MayRun, IsSerialRun}
-use Rattle.sgt_appends.specs.Precedences.{AppendsOnce, Precedes}
+use Rattle.sgt_appends.specs.Precedences.{AppendsOnce, WasSeen, WereSeen, Precedes}
 use Rattle.sgt_appends.specs.Orders.{UnknownOnlyAppend, AllClean}
-use Rattle.sgt_appends.specs.Linear.{IsRaised, IsByRank}
+use Rattle.sgt_appends.specs.Linear.{IsObserved, IsRaised, IsByRank}
 use Rattle.sgt_appends.proofs.Words.{StandsBefore-cases, StandsBefore-has, stand_somehow}
 use Rattle.sgt_appends.proofs.Guided.{rises_once}
 use Rattle.sgt_appends.proofs.Along.{along_enough}
@@ -18,6 +18,14 @@ rises_stand rank (z ∷ xs) x y rises stand = elim (StandsBefore-cases z xs x y 
   | inr w ↦ rises_stand rank xs x y rises.1 w
 ]
 
+-- one whose value a committed transaction saw
+pub seen_observed : (h : List Transaction) (t u : ℕ) → WasSeen h t u → IsObserved h t
+seen_observed h t u w = (u, w.key, w.value, w.has_seen.1.0, w.seen, w.has_seen.0, w.has_seen.1.1, w.has, w.appends)
+
+pub both_observed : (h : List Transaction) (t u : ℕ) → WereSeen h t u → IsObserved h t
+both_observed h t u w =
+    (w.reader, w.key, w.first, w.has_seen.1.0, w.seen, w.has_seen.0, w.has_seen.1.1, (StandsBefore-has w.seen w.first w.second w.before).0, w.appends_first)
+
 pub raised_enough : (h : List Transaction) (order : List ℕ) (rank end : ℕ → ℕ) (line : ℕ → List ℕ) → AppendsOnce h
     → UnknownOnlyAppend h → AllClean h → IsRaised h order rank end line → IsByRank h order rank → IsSerialRun h order
 raised_enough h order rank end line once unknown clean raised is = along_enough h order once unknown clean (record {
@@ -29,20 +37,10 @@ raised_enough h order rank end line once unknown clean raised is = along_enough 
   where
     within : (t u : ℕ) → MayRun h t → Precedes h t u → Has order t
     within t u may precedes = elim precedes.1 [
-      | inl w ↦ is.observed t may (u, w.key, w.value, w.has_seen.1.0, w.seen, w.has_seen.0, w.has_seen.1.1, w.has, w.appends)
+      | inl w ↦ is.observed t may (seen_observed h t u w)
       | inr v ↦ elim v [
         | inl w ↦ is.committed t w.has_seen.0
-        | inr w ↦ is.observed t may (
-          w.reader,
-          w.key,
-          w.first,
-          w.has_seen.1.0,
-          w.seen,
-          w.has_seen.0,
-          w.has_seen.1.1,
-          (StandsBefore-has w.seen w.first w.second w.before).0,
-          w.appends_first,
-        )
+        | inr w ↦ is.observed t may (both_observed h t u w)
       ]
     ]
 

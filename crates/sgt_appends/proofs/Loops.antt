@@ -2,20 +2,21 @@
 use Rattle.std.proofs.Common.{◌≡◌, ◌≢◌, ◌⊎◌, ◌<◌, ◌≤◌, ◌+◌, ◌++◌, ℕ, zero, suc, List, [], ◌∷◌, Option, Some, None, length, take, drop, get_or, refl, sym, ap, ◌∙◌, subst, inl, inr, arith}
 use Rattle.std.specs.Prelude.{slice_get}
 use Rattle.std.proofs.lemmas.Grind.{common_steps}
+use Rattle.std.proofs.lemmas.List.{take_all}
 use Rattle.sgt_appends.specs.declared.sorting.Link.{Link}
 use Rattle.sgt_appends.specs.declared.transaction.Transaction.{Transaction}
 use Rattle.sgt_appends.specs.declared.witness.Edge.{Edge}
 use Rattle.sgt_appends.specs.declared.witness.Reason.{Reason}
 use Rattle.sgt_appends.specs.declared.witness.Reason.TheVariants.{Seen, Missed, InOrder}
 use Rattle.sgt_appends.specs.Runs.{IsSerializable}
-use Rattle.sgt_appends.specs.Precedences.{AppendsOnce, Precedes, IsPath}
+use Rattle.sgt_appends.specs.Precedences.{AppendsOnce, WasSeen, WasMissed, WereSeen, Precedes, IsPath}
 use Rattle.sgt_appends.specs.Graphs.{IsAmong, AreAmong, LeadTo}
-use Rattle.sgt_appends.specs.Reads.{own_at}
 use Rattle.sgt_appends.specs.Witnesses.{AllPrecede, IsShown, EdgeIsShown, AreShown, EdgesLead, IsEdgeCycle}
 use Rattle.sgt_appends.specs.Turns.{edge_after, MakeEdges, IsLoop, IsLoopBelow, IsEdgeAdded, origin, Waits, AreEdgesSoFar}
 use Rattle.sgt_appends.proofs.Orders.{cycle_enough}
+use Rattle.sgt_appends.proofs.Along.{saw_value, missed_value, saw_both}
 use Rattle.sgt_appends.proofs.Filed.{at_appends}
-use Rattle.sgt_appends.proofs.Passed.{reads_at}
+use Rattle.sgt_appends.proofs.Passed.{has_seen_at}
 use Rattle.sgt_appends.proofs.Sortings.{among_at, among_append, round_on, never_empty}
 
 pub edges_lead_one : (a : ℕ) (es : List Edge) (e : Edge) → EdgesLead a es e.from → EdgesLead a (es ++ e ∷ []) e.to
@@ -147,43 +148,26 @@ edges_whole h links i edges before so_far whole some = go before so_far.leads so
     }
 
 -- what an edge shows
+-- what a reason shows
+pub shown_seen : (h : List Transaction) (from to append read : ℕ) → IsShown h from to (Seen append read) → WasSeen h from to
+shown_seen h from to append read (k, v, seen, appends, reads, has) =
+    saw_value h to k from v seen (has_seen_at h to read k seen reads) (at_appends h from append k v appends) has
+
+pub shown_missed : (h : List Transaction) (from to read append : ℕ) → IsShown h from to (Missed read append) → WasMissed h from to
+shown_missed h from to read append (k, v, seen, appends, reads, has_not) =
+    missed_value h from k to v seen (has_seen_at h from read k seen reads) (at_appends h to append k v appends) has_not
+
+pub shown_in_order : (h : List Transaction) (from to first second reader read : ℕ) → IsShown h from to (InOrder first second reader read)
+    → WereSeen h from to
+shown_in_order h from to first second reader read (k, v, w, seen, one, other, reads, stands) =
+    saw_both h reader k from to v w seen (has_seen_at h reader read k seen reads) (at_appends h from first k v one)
+    (at_appends h to second k w other) stands
+
 shown_precedes : (h : List Transaction) (from to : ℕ) (reason : Reason) → from ≢ to → IsShown h from to reason → Precedes h from to
-shown_precedes h from to (Seen append read) differ (k, v, seen, appends, reads, has) = (
-  differ,
-  inl (record {
-    key = k;
-    value = v;
-    seen = seen;
-    appends = at_appends h from append k v appends;
-    has_seen = (reads.0, (own_at h to read k, reads_at h to read k seen reads.1));
-    has = has;
-  }),
-)
-shown_precedes h from to (Missed read append) differ (k, v, seen, appends, reads, not) = (
-  differ,
-  inr (inl (record {
-    key = k;
-    value = v;
-    seen = seen;
-    appends = at_appends h to append k v appends;
-    has_seen = (reads.0, (own_at h from read k, reads_at h from read k seen reads.1));
-    has_not = not;
-  })),
-)
-shown_precedes h from to (InOrder first second reader read) differ (k, v, w, seen, one, other, reads, stands) = (
-  differ,
-  inr (inr (record {
-    reader = reader;
-    key = k;
-    first = v;
-    second = w;
-    seen = seen;
-    appends_first = at_appends h from first k v one;
-    appends_second = at_appends h to second k w other;
-    has_seen = (reads.0, (own_at h reader read k, reads_at h reader read k seen reads.1));
-    before = stands;
-  })),
-)
+shown_precedes h from to (Seen append read) differ it = (differ, inl (shown_seen h from to append read it))
+shown_precedes h from to (Missed read append) differ it = (differ, inr (inl (shown_missed h from to read append it)))
+shown_precedes h from to (InOrder first second reader read) differ it =
+    (differ, inr (inr (shown_in_order h from to first second reader read it)))
 
 pub all_precede : (h : List Transaction) (es : List Edge) → AreShown h es → AllPrecede h es
 all_precede h [] shown i e at = absurd (grind (arith, common_steps, at))
@@ -212,6 +196,16 @@ cycle_shown h es once cycle = go es cycle.some cycle.leads cycle.shown
     go (e ∷ fs) some leads shown =
         let path = path_of h e fs cycle.start shown leads.1 in
         cycle_enough h cycle.start path.0 once (subst (λ n. IsPath h n path.0 cycle.start) leads.0 path.1)
+
+-- edges that lead back to where they start are a cycle
+pub closed_cycle : (h : List Transaction) (start at i : ℕ) (edges : List Edge) → EdgesLead start (take i edges) at → AreShown h (take i edges)
+    → length edges ≤ i → 0 < length edges → at ≡ start → IsEdgeCycle h edges
+closed_cycle h start at i edges leads shown whole some same = record {
+  start = start;
+  leads = subst (λ n. EdgesLead start edges n) same (subst (λ es. EdgesLead start es at) (take_all i edges whole) leads);
+  some = λ e. absurd (omega (arith, some, ap length e));
+  shown = subst (λ es. AreShown h es) (take_all i edges whole) shown;
+}
 
 -- the same cycle, one link later
 pub turned_loop : (h : List Transaction) (l : Link) (rest : List Link) → IsLoop (l ∷ rest) → MakeEdges h (l ∷ rest)

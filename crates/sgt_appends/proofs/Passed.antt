@@ -13,11 +13,13 @@ use Rattle.sgt_appends.specs.declared.fault.Fault.{Fault}
 use Rattle.sgt_appends.specs.declared.fault.Fault.TheVariants.{Unwritten, Aborted, Twice, Swapped, EndsOtherwise, Ahead, Incompatible}
 use Rattle.sgt_appends.specs.Lists.{Has, IsOnce, StandsBefore}
 use Rattle.sgt_appends.specs.Runs.{operations_of, Ended, MayRun, IsSerializable}
-use Rattle.sgt_appends.specs.Precedences.{appended, Appends, Reads, HasReadAfter, AppendsOnce}
+use Rattle.sgt_appends.specs.Precedences.{appended, Appends, Reads, HasReadAfter, HasSeen, AppendsOnce}
 use Rattle.sgt_appends.specs.Faults.{IsFault}
 use Rattle.sgt_appends.specs.Orders.{IsClean, AllClean}
 use Rattle.sgt_appends.specs.Indexes.{Positions, IsIndex}
 use Rattle.sgt_appends.specs.Reads.{IsReadAt, own_at, Faults, HasFault, IsCleanAt, AreCleanIn, Lasts, IsFaultAt, IsPassedOne, IsPassed}
+use Rattle.sgt_appends.specs.Paths.{ReadAt}
+use Rattle.sgt_appends.specs.Witnesses.{IsSeenAt}
 use Rattle.sgt_appends.proofs.Words.{Has-append_left, Has-append_cases, StandsBefore-cons, StandsBefore-cases, StandsBefore-has}
 use Rattle.sgt_appends.proofs.Spots.{read_place, at_append, has_at}
 use Rattle.sgt_appends.proofs.ReadFaults.{at_both, not_yet}
@@ -28,6 +30,20 @@ use Rattle.sgt_appends.proofs.Faulty.{fault_enough}
 pub reads_at : (h : List Transaction) (t p k : ℕ) (seen : List ℕ) → IsReadAt h t p k seen → Reads h t k (own_at h t p k) seen
 reads_at h t p k seen it =
     subst (λ xs. HasReadAfter [] (operations_of h t) k (own_at h t p k) xs) it.2 (read_place (operations_of h t) p k it.0 [] it.1)
+
+-- what a committed transaction saw at a position, by equal numbers
+pub seen_here : (h : List Transaction) (t p k u q l : ℕ) (seen : List ℕ) → u ≡ t → q ≡ p → l ≡ k → Ended h u Committed
+    → IsReadAt h u q l seen → IsSeenAt h t p k seen
+seen_here h t p k u q l seen reader position key committed reads = (
+  subst (λ w. Ended h w Committed) reader committed,
+  subst (λ x. IsReadAt h t p x seen) key (subst (λ x. IsReadAt h t x l seen) position (subst (λ w. IsReadAt h w q l seen) reader reads)),
+)
+
+pub own_seen_at : (h : List Transaction) (t p k : ℕ) (seen : List ℕ) → IsSeenAt h t p k seen → ReadAt h t p k seen
+own_seen_at h t p k seen it = (it.0, reads_at h t p k seen it.1)
+
+pub has_seen_at : (h : List Transaction) (t p k : ℕ) (seen : List ℕ) → IsSeenAt h t p k seen → HasSeen h t k seen
+has_seen_at h t p k seen it = (it.0, (own_at h t p k, reads_at h t p k seen it.1))
 
 -- each read has a position
 read_stands : (os : List Operation) (mine : List ℕ) (k : ℕ) (own seen : List ℕ) → HasReadAfter mine os k own seen
@@ -270,26 +286,28 @@ twice_reported h t k own seen fault reported is it = elim is [
   | inr w ↦ subst (λ f. Faults h t k own seen f) (sym w.1) w.2
 ]
 
+-- the fault of a read at a position is one of the read
+pub as_fault : (h : List Transaction) (t p k : ℕ) (seen : List ℕ) (f : Fault) → Faults h t k (own_at h t p k) seen f
+    → IsFault h t k (own_at h t p k) seen
+as_fault h t p k seen (Unwritten v) is = inl (v, is.0, is.1)
+as_fault h t p k seen (Aborted by append) is = inl (is.0, is.2, is.3)
+as_fault h t p k seen (Twice v) is = inr (inl (v, is))
+as_fault h t p k seen (Swapped by first second) is =
+    inr (inr (inl (by, is.0, is.1, at_both (operations_of h by) first second k is.0 is.1 is.2 is.3 is.4, is.5)))
+as_fault h t p k seen EndsOtherwise is = inr (inr (inr (inl is)))
+as_fault h t p k seen (Ahead append) is = inr (inr (inr (inr (inl (is.0, is.3, at_appends h t append k is.0 is.1, is.2)))))
+as_fault h t p k seen (Incompatible other read) is = inr (inr (inr (inr (inr (
+  other,
+  is.0,
+  (is.1, (own_at h other read k, reads_at h other read k is.0 is.2)),
+  is.3,
+  is.4,
+)))))
+
 -- if a read has a fault there is no serial run
 pub fault_shown : (h : List Transaction) (t p : ℕ) (fault : Fault) → AppendsOnce h → HasFault h t p fault → ¬ IsSerializable h
 fault_shown h t p fault once it =
-    fault_enough h t it.0 (own_at h t p it.0) it.1 once it.2 (reads_at h t p it.0 it.1 it.3) (as_fault fault it.4)
-  where
-    as_fault : (f : Fault) → Faults h t it.0 (own_at h t p it.0) it.1 f → IsFault h t it.0 (own_at h t p it.0) it.1
-    as_fault (Unwritten v) is = inl (v, is.0, is.1)
-    as_fault (Aborted by append) is = inl (is.0, is.2, is.3)
-    as_fault (Twice v) is = inr (inl (v, is))
-    as_fault (Swapped by first second) is =
-        inr (inr (inl (by, is.0, is.1, at_both (operations_of h by) first second it.0 is.0 is.1 is.2 is.3 is.4, is.5)))
-    as_fault EndsOtherwise is = inr (inr (inr (inl is)))
-    as_fault (Ahead append) is = inr (inr (inr (inr (inl (is.0, is.3, at_appends h t append it.0 is.0 is.1, is.2)))))
-    as_fault (Incompatible other read) is = inr (inr (inr (inr (inr (
-      other,
-      is.0,
-      (is.1, (own_at h other read it.0, reads_at h other read it.0 is.0 is.2)),
-      is.3,
-      is.4,
-    )))))
+    fault_enough h t it.0 (own_at h t p it.0) it.1 once it.2 (reads_at h t p it.0 it.1 it.3) (as_fault h t p it.0 it.1 fault it.4)
 
 pub not_read : (os : List Operation) (p l v k : ℕ) (values : Vec ℕ) → slice_get os p ≡ Some (Append l v)
     → ¬ (slice_get os p ≡ Some (Read k values))

@@ -81,45 +81,60 @@ last_of (y ∷ z ∷ zs) v has = go has (last_of (z ∷ zs) z (inl refl)) (λ th
         more x (inl same) = inl same
         more x (inr stand) = inr (StandsBefore-cons y (z ∷ zs) v x stand)
 
--- a writer whose value was seen is below the reader
-pub seen_below : (h : List Transaction) (order : List ℕ) (rank end : ℕ → ℕ) (line : ℕ → List ℕ) → AppendsOnce h → AllClean h
-    → IsRaised h order rank end line → (t r k v : ℕ) (own seen : List ℕ) → Ended h r Committed → Reads h r k own seen → Has seen v
-    → Appends h t k v → t ≢ r → rank t < rank r
-seen_below h order rank end line once clean raised t r k v own seen committed reads has appends differ =
+-- the last value of others that a reader saw; what appends a value that it saw appends this one, or one before it
+pub last_seen : (h : List Transaction) (r k : ℕ) (own seen : List ℕ) (t v : ℕ) → AppendsOnce h → IsClean h r k own seen
+    → Reads h r k own seen → Has seen v → Appends h t k v → t ≢ r
+    → (front : List ℕ) × (x : ℕ) × (who : ℕ) × (seen ≡ (front ++ x ∷ []) ++ own) × Appends h who k x × ((v ≡ x) ⊎ StandsBefore seen v x)
+last_seen h r k own seen t v once is reads has appends differ =
     elim (Has-append_cases is.base own v (subst (λ xs. Has xs v) is.ends has)) [
       | inl w ↦ by_last (last_of is.base v w)
       | inr w ↦ absurd (differ (once.by_one t r k v appends (mine w)))
     ]
   where
-    is : IsClean h r k own seen
-    is = clean r k own seen committed reads
-
     mine : Has own v → Appends h r k v
     mine there =
         let it = read_own (operations_of h r) k [] own seen reads in
         subst (λ xs. Has xs v) (sym it.1) (Has-append_left own it.0 v there)
 
-    written : AreWritten h k seen
-    written x there = let who = is.written x there in (who.0, who.1)
+    in_seen : (x : ℕ) → (v ≡ x) ⊎ StandsBefore is.base v x → (v ≡ x) ⊎ StandsBefore seen v x
+    in_seen x (inl e) = inl e
+    in_seen x (inr stand) = inr (subst (λ xs. StandsBefore xs v x) (sym is.ends) (StandsBefore-back is.base own v x stand))
 
-    by_last : ((front : List ℕ) × (x : ℕ) × (is.base ≡ front ++ x ∷ []) × ((v ≡ x) ⊎ StandsBefore is.base v x)) → rank t < rank r
+    by_last : ((front : List ℕ) × (x : ℕ) × (is.base ≡ front ++ x ∷ []) × ((v ≡ x) ⊎ StandsBefore is.base v x))
+        → (front : List ℕ) × (x : ℕ) × (who : ℕ) × (seen ≡ (front ++ x ∷ []) ++ own) × Appends h who k x × ((v ≡ x) ⊎ StandsBefore seen v x)
     by_last (front, x, same, either) =
         let there : Has seen x = subst (λ xs. Has xs x) (sym is.ends)
         (Has-append_left is.base own x (subst (λ xs. Has xs x) (sym same) (Has-append_right front (x ∷ []) x (inl refl)))) in
-        let who = written x there in
-        let below : rank who.0 < rank r = raised.last r k own seen front x who.0 committed reads
-        (is.ends ∙ ap (λ xs. xs ++ own) same) who.1 in
-        elim either [
-          | inl e ↦ omega (arith, below, ap rank (once.by_one t who.0 k x (subst (λ y. Appends h t k y) e appends) who.1))
-          | inr stand ↦ elim (stand_climb h rank k seen v x t who.0 once (raised.climbs r k own seen committed reads) written
-              (subst (λ xs. StandsBefore xs v x) (sym is.ends) (StandsBefore-back is.base own v x stand)) appends who.1) [
-                | inl e ↦ omega (arith, below, ap rank e)
-                | inr less ↦ omega (arith, below, less)
-              ]
-        ]
+        let who = is.written x there in
+        (front, x, who.0, is.ends ∙ ap (λ xs. xs ++ own) same, who.1, in_seen x either)
+
+-- a writer whose value was seen is below the reader
+pub seen_under : (h : List Transaction) (rank : ℕ → ℕ) → AppendsOnce h → AllClean h
+    → ((r k : ℕ) (own seen : List ℕ) → Ended h r Committed → Reads h r k own seen → Climbs h rank k seen)
+    → ((r k : ℕ) (own seen front : List ℕ) (x t : ℕ) → Ended h r Committed → Reads h r k own seen
+    → seen ≡ (front ++ x ∷ []) ++ own → Appends h t k x → rank t < rank r)
+    → (t r k v : ℕ) (own seen : List ℕ) → Ended h r Committed → Reads h r k own seen → Has seen v
+    → Appends h t k v → t ≢ r → rank t < rank r
+seen_under h rank once clean climbs last t r k v own seen committed reads has appends differ =
+    let is = clean r k own seen committed reads in
+    let it = last_seen h r k own seen t v once is reads has appends differ in
+    let below : rank it.2 < rank r = last r k own seen it.0 it.1 it.2 committed reads it.3 it.4 in
+    elim it.5 [
+      | inl e ↦ omega (arith, below, ap rank (once.by_one t it.2 k it.1 (subst (λ y. Appends h t k y) e appends) it.4))
+      | inr stand ↦ elim (stand_climb h rank k seen v it.1 t it.2 once (climbs r k own seen committed reads)
+          (λ x there. let who = is.written x there in (who.0, who.1)) stand appends it.4) [
+            | inl e ↦ omega (arith, below, ap rank e)
+            | inr less ↦ omega (arith, below, less)
+          ]
+    ]
+
+pub seen_below : (h : List Transaction) (order : List ℕ) (rank end : ℕ → ℕ) (line : ℕ → List ℕ) → AppendsOnce h → AllClean h
+    → IsRaised h order rank end line → (t r k v : ℕ) (own seen : List ℕ) → Ended h r Committed → Reads h r k own seen → Has seen v
+    → Appends h t k v → t ≢ r → rank t < rank r
+seen_below h order rank end line once clean raised = seen_under h rank once clean raised.climbs raised.last
 
 -- the line of a key: its appenders, and that they are below its end
-line_written : (h : List Transaction) (k : ℕ) (line : List ℕ) → AllClean h → IsLine h k line → AreWritten h k line
+pub line_written : (h : List Transaction) (k : ℕ) (line : List ℕ) → AllClean h → IsLine h k line → AreWritten h k line
 line_written h k line clean is v has = elim (is.known v has) [
   | inl w ↦ let who = (clean is.reader k is.own is.seen is.committed is.reads).written v w in (who.0, who.1)
   | inr w ↦ (is.reader, w)

@@ -1,4 +1,4 @@
--- Operations at a position, and paths that grow.
+-- Operations at a position.
 use Rattle.std.proofs.Common.{◌≡◌, ◌<◌, ◌+◌, ◌==◌, ◌++◌, ℕ, zero, suc, Bool, true, false, cond, List, [], ◌∷◌, Some, length, take, get_or, refl, sym, ap, subst, inl, inr, arith, append_assoc, append-nil}
 use Rattle.std.specs.Prelude.{slice_get}
 use Rattle.std.specs.Global.{Vec}
@@ -7,12 +7,9 @@ use Rattle.std.proofs.lemmas.Grind.{common_steps}
 use Rattle.sgt_appends.specs.declared.transaction.Operation.{Operation}
 use Rattle.sgt_appends.specs.declared.transaction.Operation.TheVariants.{Append, Read}
 use Rattle.sgt_appends.specs.declared.transaction.Transaction.{Transaction}
-use Rattle.sgt_appends.specs.declared.transaction.Status.TheVariants.{Committed}
 use Rattle.sgt_appends.specs.Lists.{Has}
-use Rattle.sgt_appends.specs.Runs.{operations_or_none, IsSerializable}
-use Rattle.sgt_appends.specs.Precedences.{appended, Appends, HasReadAfter, HasSeen, AppendsOnce, Precedes, IsPath}
-use Rattle.sgt_appends.specs.Paths.{Reaches, ReadAt}
-use Rattle.sgt_appends.proofs.Orders.{cycle_enough}
+use Rattle.sgt_appends.specs.Runs.{operations_or_none}
+use Rattle.sgt_appends.specs.Precedences.{appended, Appends, HasReadAfter}
 
 pub has_at : (xs : List ℕ) (i : ℕ) (x : ℕ) → i < length xs → get_or xs i 0 ≡ x → Has xs x
 has_at [] i x within is = absurd (omega arith)
@@ -63,29 +60,6 @@ pub appends_at : (h : List Transaction) (t p k v : ℕ) (x : Transaction) → sl
 appends_at h t p k v x there at =
     subst (λ os. Has (appended k os) v) (sym (ap operations_or_none there)) (at_append x.operations.items p k v at)
 
-pub seen_at : (h : List Transaction) (t p k : ℕ) (vs : Vec ℕ) (x : Transaction) → slice_get h t ≡ Some x → x.status ≡ Committed
-    → slice_get x.operations.items p ≡ Some (Read k vs) → HasSeen h t k vs.items
-seen_at h t p k vs x there committed at = (
-  (x, there, committed),
-  subst (λ os. (own : List ℕ) × HasReadAfter [] os k own vs.items) (sym (ap operations_or_none there))
-      (at_read x.operations.items p k vs at []),
-)
-
--- a path and one step more
-pub path_one : (h : List Transaction) (t : ℕ) (others : List ℕ) (u v : ℕ) → IsPath h t others u → Precedes h u v
-    → IsPath h t (others ++ u ∷ []) v
-path_one h t [] u v path step = (path, step)
-path_one h t (w ∷ others) u v path step = (path.0, path_one h w others u v path.1 step)
-
-pub reach_one : (h : List Transaction) (i t u v : ℕ) → Reaches h i t u → Precedes h u v → Reaches h (i + 1) t v
-reach_one h i t u v (inl none) step = inr (omega arith, ([], subst (λ w. Precedes h w v) (sym none.1) step))
-reach_one h i t u v (inr some) step = inr (omega arith, (some.1.0 ++ u ∷ [], path_one h t some.1.0 u v some.1.1 step))
-
-pub closed : (h : List Transaction) (i t u : ℕ) → AppendsOnce h → 0 < i → Reaches h i t u → u ≡ t → ¬ IsSerializable h
-closed h i t u once some (inl none) same = absurd (omega (arith, none.0))
-closed h i t u once some (inr path) same =
-    cycle_enough h t path.1.0 once (subst (λ w. IsPath h t path.1.0 w) same path.1.1)
-
 -- the read at a position comes after what the operations before it append
 pub read_place : (os : List Operation) (p k : ℕ) (vs : Vec ℕ) (mine : List ℕ) → slice_get os p ≡ Some (Read k vs)
     → HasReadAfter mine os k (mine ++ appended k (take p os)) vs.items
@@ -105,11 +79,3 @@ read_place (Append key value ∷ os) (suc p) k vs mine at =
         (append_assoc mine (value ∷ []) (appended k (take p os))) (all (mine ++ value ∷ []))
     go false all = all mine
 read_place (Read key values ∷ os) (suc p) k vs mine at = inr (read_place os p k vs mine at)
-
-pub read_place_at : (h : List Transaction) (t p k : ℕ) (vs : Vec ℕ) (x : Transaction) → slice_get h t ≡ Some x → x.status ≡ Committed
-    → slice_get x.operations.items p ≡ Some (Read k vs) → ReadAt h t p k vs.items
-read_place_at h t p k vs x there committed at = (
-  (x, there, committed),
-  subst (λ os. HasReadAfter [] os k (appended k (take p os)) vs.items) (sym (ap operations_or_none there))
-      (read_place x.operations.items p k vs [] at),
-)

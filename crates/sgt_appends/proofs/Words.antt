@@ -127,3 +127,30 @@ stand_somehow (z ∷ xs) x y (inr there) (inr other) differ = elim (stand_someho
   | inl w ↦ inl (StandsBefore-cons z xs x y w)
   | inr w ↦ inr (StandsBefore-cons z xs y x w)
 ]
+
+-- a number of the one list stands before one of the other
+pub across : (xs ys : List ℕ) (x y : ℕ) → Has xs x → Has ys y → StandsBefore (xs ++ ys) x y
+across [] ys x y has there = absurd has
+across (z ∷ xs) ys x y (inl same) there = ([], xs ++ ys, ap (λ w. w ∷ (xs ++ ys)) same, Has-append_right xs ys y there)
+across (z ∷ xs) ys x y (inr later) there = StandsBefore-cons z (xs ++ ys) x y (across xs ys x y later there)
+
+-- which number stands before another in a list with one more
+pub last_stands : (xs : List ℕ) (x v w : ℕ) → StandsBefore (xs ++ x ∷ []) v w → StandsBefore xs v w ⊎ (Has xs v × (x ≡ w))
+last_stands [] x v w it = elim (StandsBefore-cases x [] v w it) [
+  | inl a ↦ absurd a.1
+  | inr a ↦ absurd (StandsBefore-has [] v w a).0
+]
+last_stands (z ∷ xs) x v w it = elim (StandsBefore-cases z (xs ++ x ∷ []) v w it) [
+  | inl a ↦ elim (Has-append_cases xs (x ∷ []) w a.1) [
+    | inl b ↦ inl ([], xs, ap (λ q. q ∷ xs) a.0, b)
+    | inr b ↦ inr (inl a.0, only x w b)
+  ]
+  | inr a ↦ elim (last_stands xs x v w a) [
+    | inl b ↦ inl (StandsBefore-cons z xs v w b)
+    | inr b ↦ inr (inr b.0, b.1)
+  ]
+]
+  where
+    only : (x w : ℕ) → Has (x ∷ []) w → x ≡ w
+    only x w (inl same) = same
+    only x w (inr none) = absurd none

@@ -1,4 +1,5 @@
-//! Whether what the clients of a database saw is serializable, in the list-append model of Elle.
+//! Whether what the clients of a database saw is serializable, in the list-append model of Elle. This crate knows nothing
+//! of the engine: its histories may come from any database.
 //!
 //! Clients append values to lists and read whole lists. A serial order runs the committed transactions one after
 //! another, from empty lists, and every read returns exactly what its client saw. Transactions with an unknown end may
@@ -43,7 +44,6 @@ mod proposal;
 mod reads;
 mod search;
 mod short;
-mod shown;
 mod solver;
 mod sorting;
 mod transaction;
@@ -63,7 +63,9 @@ pub use order::{is_serial_run, names_each};
 pub use premises::unknown_read;
 pub use proposal::{Before, Proposal, propose};
 pub use reads::{Read, first_fault, read_of};
-pub use shown::{is_shown, is_shown_cycle};
 pub use sorting::{Link, Sorted, sort, sort_within};
 pub use transaction::{Operation, Status, Transaction};
-pub use witness::{Edge, Reason, all_hold, append_at, has, is_cycle, read_at, stands_before};
+pub use witness::{
+    Edge, ReadOfTwo, Reason, all_hold, append_at, has, is_shown, is_shown_cycle, read_at,
+    read_of_two, stands_before,
+};

@@ -2,9 +2,8 @@
 //!
 //! Values of a key that follow one another in a read lead along it in many steps. Any two of them make one step.
 
-use crate::shown::is_shown;
 use crate::transaction::{Operation, Transaction};
-use crate::witness::{Edge, Reason};
+use crate::witness::{Edge, Reason, is_shown};
 use sgt_model::NoMemory;
 use std::alloc::Global;
 

@@ -15,11 +15,10 @@ use crate::merge::merged;
 use crate::premises::unknown_read;
 use crate::reads::first_fault;
 use crate::search::short_cycle;
-use crate::shown::is_shown;
 use crate::solver::not_aborted;
 use crate::sorting::{Link, sort_within};
 use crate::transaction::Transaction;
-use crate::witness::{Edge, Reason};
+use crate::witness::{Edge, Reason, is_shown};
 use sgt_model::NoMemory;
 use std::alloc::Global;
 

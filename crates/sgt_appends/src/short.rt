@@ -7,10 +7,9 @@ ghost use Rattle.sgt_appends.specs.Witnesses.{IsEdgeCycle};
 
 use crate::merge::merged;
 use crate::search::short_cycle;
-use crate::shown::is_shown_cycle;
 use crate::sorting::Link;
 use crate::transaction::Transaction;
-use crate::witness::Edge;
+use crate::witness::{Edge, is_shown_cycle};
 use sgt_model::NoMemory;
 use std::alloc::Global;
 

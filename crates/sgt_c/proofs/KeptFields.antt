@@ -1,6 +1,6 @@
 -- Fields that keep their old values.
 use Rattle.std.proofs.Common.{◌≡◌, ℕ, zero, suc, pos, ◌<◌, List, [], ◌∷◌, length, drop, get_or, set, refl, ap, subst, arith}
-use Rattle.sgt_c.specs.declared.outcome_struct.SgtOutcome.{SgtOutcome}
+use Rattle.sgt_c.specs.declared.reply_struct.SgtOutcome.{SgtOutcome}
 use Rattle.sgt_c.specs.declared.reply_struct.SgtReply.{SgtReply}
 use Rattle.sgt_c.specs.KeptFields.{KeepsOtherFields, KeepOtherFields}
 

@@ -5,7 +5,7 @@ use Rattle.std.proofs.lemmas.List.Elements.{All-push}
 use Rattle.std.specs.List.{All}
 use Rattle.sgt_engine.specs.EngineView.{EngineView}
 use Rattle.sgt_c.specs.declared.call_struct.SgtCall.{SgtCall}
-use Rattle.sgt_c.specs.declared.outcome_struct.SgtOutcome.{SgtOutcome}
+use Rattle.sgt_c.specs.declared.reply_struct.SgtOutcome.{SgtOutcome}
 use Rattle.sgt_c.specs.ManyRuns.{IsRunnable, RanAll, RanOne}
 
 one_more : (calls : List SgtCall) (outcomes : List SgtOutcome) (i : ℕ) (c : SgtCall) (o : SgtOutcome) (e between after : EngineView)

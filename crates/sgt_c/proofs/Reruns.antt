@@ -28,7 +28,7 @@ use Rattle.sgt_progress.proofs.Alone.{started_alone, stays_alone}
 use Rattle.sgt_progress.proofs.RunAlone.{StepsSo, commit_ends, none_after_end, none_at_first, none_stays, step_so}
 use Rattle.sgt_c.specs.declared.call_struct.SgtCall.{SgtCall}
 use Rattle.sgt_c.specs.declared.held.Held.{Held}
-use Rattle.sgt_c.specs.declared.outcome_struct.SgtOutcome.{SgtOutcome}
+use Rattle.sgt_c.specs.declared.reply_struct.SgtOutcome.{SgtOutcome}
 use Rattle.sgt_c.specs.declared.reply_struct.SgtReply.{SgtReply}
 use Rattle.sgt_c.specs.AccessStructs.{accesses_of}
 use Rattle.sgt_c.specs.ManyRuns.{IsRunnable, RanAll, args_in}

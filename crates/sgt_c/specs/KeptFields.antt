@@ -3,7 +3,7 @@ use Rattle.std.specs.Prelude.{◌≡◌, ◌≢◌, ℕ, Bool, true, false, ◌&
 use Rattle.sgt_model.specs.Contents.{Key}
 use Rattle.sgt_c.specs.declared.event_struct.SgtEvent.{SgtEvent}
 use Rattle.sgt_c.specs.declared.fault_struct.SgtFault.{SgtFault}
-use Rattle.sgt_c.specs.declared.outcome_struct.SgtOutcome.{SgtOutcome}
+use Rattle.sgt_c.specs.declared.reply_struct.SgtOutcome.{SgtOutcome}
 use Rattle.sgt_c.specs.declared.reply_struct.SgtReply.{SgtReply}
 
 -- ---- the fields of a kind of reply

@@ -5,7 +5,7 @@ use Rattle.sgt_model.specs.declared.reply.Reply.{Reply}
 use Rattle.sgt_engine.specs.EngineView.{EngineView}
 use Rattle.sgt_c.specs.declared.call_struct.SgtCall.{SgtCall}
 use Rattle.sgt_c.specs.declared.held.Held.{Held}
-use Rattle.sgt_c.specs.declared.outcome_struct.SgtOutcome.{SgtOutcome}
+use Rattle.sgt_c.specs.declared.reply_struct.SgtOutcome.{SgtOutcome}
 use Rattle.sgt_engine.specs.Guarantees.{Guarantees}
 use Rattle.sgt_c.specs.ReplyStructs.{HoldsReply}
 use Rattle.sgt_c.specs.Runs.{Runs, GivesUp, IsNumberReported}

@@ -11,7 +11,7 @@ use Rattle.sgt_progress.specs.GivenCalls.{GivenCall, given_calls, given_of}
 use Rattle.sgt_progress.specs.Reruns.{IsOneByOne, ReportTheSame}
 use Rattle.sgt_c.specs.declared.call_struct.SgtCall.{SgtCall}
 use Rattle.sgt_c.specs.declared.held.Held.{Held}
-use Rattle.sgt_c.specs.declared.outcome_struct.SgtOutcome.{SgtOutcome}
+use Rattle.sgt_c.specs.declared.reply_struct.SgtOutcome.{SgtOutcome}
 use Rattle.sgt_c.specs.declared.reply_struct.SgtReply.{SgtReply}
 use Rattle.sgt_c.specs.ManyRuns.{IsRunnable, RanMany}
 use Rattle.sgt_c.specs.ReplayedCalls.{AreReported, call_in, past_at, result_in}

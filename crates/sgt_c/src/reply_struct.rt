@@ -1,11 +1,13 @@
-//! The struct of a reply for C, and how it is written.
-ghost use Rattle.std.specs.Prelude.{◌≡◌, ◌≤◌, ◌||◌, true, nat_eq, drop, length, take};
+//! The structs of a reply and of a run's outcome for C, and how they are written.
+ghost use Rattle.std.specs.Prelude.{◌≡◌, ◌≤◌, ◌||◌, true, cond, nat_eq, drop, length, take};
 ghost use Rattle.sgt_model.specs.declared.reply.Reply.TheVariants as reply;
 ghost use Rattle.sgt_model.specs.ShortReplies.{full_cause, full_fate, reply_with};
 ghost use Rattle.sgt_c.specs.KeptFields.{KeepsOtherFields, WritesCause};
 ghost use Rattle.sgt_c.specs.ReplyStructs.{HoldsAccess, HoldsCause, HoldsReply};
+ghost use Rattle.sgt_c.specs.Runs.{IsNumberReported};
 
-use sgt_model::{Answers, Key, ReplyLists, ShortCause, ShortFate, ShortReply, Tids};
+use crate::run::Outcome;
+use sgt_model::{Answers, Key, ReplyLists, ShortCause, ShortFate, ShortReply, Tid, Tids};
 
 /// The reply to an event, for C. `kind` says which of the other fields belong to it.
 #[repr(C)]
@@ -171,4 +173,35 @@ pub fn write_tids(to: &mut [u32; 32], tids: &Tids) -> u32
         to[i] = t.0;
     }
     count as u32
+}
+
+/// The outcome of a run, for C: the number of its transaction, or 0 if none was started; 1 if one of its steps wrote, and
+/// else 0; and its last reply.
+#[repr(C)]
+#[derive(Drop)]
+pub struct SgtOutcome {
+    pub tid: u32,
+    pub wrote: u32,
+    pub reply: SgtReply,
+}
+
+/// Writes an outcome for C, with the lists of its last reply.
+pub fn write_outcome(into: &mut SgtOutcome, outcome: &Outcome, lists: &ReplyLists)
+    ensures tid { IsNumberReported outcome.now.started 0 into.new.tid }
+    ensures wrote { into.new.wrote ≡ cond outcome.now.wrote 1 0 }
+    ensures reply { HoldsReply into.new.reply (reply_with outcome.now.last lists.now) }
+    ensures kept { KeepsOtherFields into.old.reply into.new.reply }
+{
+    into.tid = number_or_0(outcome.started);
+    into.wrote = u32::from(outcome.wrote);
+    write_reply(&mut into.reply, &outcome.last, lists);
+}
+
+fn number_or_0(t: Option<Tid>) -> u32
+    ensures { IsNumberReported t 0 result }
+{
+    match t {
+        Some(t) => t.0,
+        None => 0,
+    }
 }

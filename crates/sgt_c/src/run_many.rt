@@ -9,7 +9,7 @@ ghost use Rattle.sgt_c.specs.Handles.{VisitsIf};
 
 use crate::call_struct::SgtCall;
 use crate::handle::{Handle, take_held};
-use crate::outcome_struct::{SgtOutcome, write_outcome};
+use crate::reply_struct::{SgtOutcome, write_outcome};
 use crate::requested::arguments;
 use crate::run::run;
 use crate::status;

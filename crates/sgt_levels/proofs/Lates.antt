@@ -4,14 +4,15 @@ use Rattle.std.proofs.lemmas.Bool.{cases_eq}
 use Rattle.sgt_appends.specs.declared.transaction.Transaction.{Transaction}
 use Rattle.sgt_appends.specs.declared.transaction.Status.TheVariants.{Committed}
 use Rattle.sgt_appends.specs.Lists.{Has, StandsBefore}
-use Rattle.sgt_appends.specs.Runs.{operations_of, Ended, MayRun}
+use Rattle.sgt_appends.specs.Runs.{Ended, MayRun}
 use Rattle.sgt_appends.specs.Precedences.{Appends, Reads, AppendsOnce}
-use Rattle.sgt_appends.specs.Orders.{IsClean, AllClean, UnknownOnlyAppend}
+use Rattle.sgt_appends.specs.Orders.{AllClean, UnknownOnlyAppend}
 use Rattle.sgt_appends.specs.Linear.{IsByRank}
-use Rattle.sgt_appends.proofs.Words.{Has-append_left, Has-append_right, Has-append_cases, StandsBefore-back, StandsBefore-has}
-use Rattle.sgt_appends.proofs.Along.{has_or_not, read_own}
+use Rattle.sgt_appends.proofs.Words.{Has-append_right, Has-append_cases}
+use Rattle.sgt_appends.proofs.Along.{has_or_not}
 use Rattle.sgt_appends.proofs.Guided.{rises_once}
-use Rattle.sgt_appends.proofs.Raised.{AreWritten, last_of, stand_climb}
+use Rattle.sgt_appends.proofs.Raised.{AreWritten, last_of, stand_climb, seen_under, line_written as written_line}
+use Rattle.sgt_appends.proofs.ByRank.{seen_observed, both_observed}
 use Rattle.sgt_levels.specs.Levels.{Follows}
 use Rattle.sgt_levels.specs.Commits.{IsCommittedRun, AllWhole, IsAlongCommits}
 use Rattle.sgt_levels.specs.Lates.{IsCommitRaised}
@@ -34,12 +35,7 @@ module _ (h : List Transaction) (order : List ℕ) (rank end : ℕ → ℕ) (lin
   read_written r k own seen committed reads v has = let who = (clean r k own seen committed reads).written v has in (who.0, who.1)
 
   line_written : (k : ℕ) → AreWritten h k (line k)
-  line_written k v has =
-      let it = is.lines k v has in
-      elim (it.known v has) [
-        | inl w ↦ let who = (clean it.reader k it.own it.seen it.committed it.reads).written v w in (who.0, who.1)
-        | inr w ↦ (it.reader, w)
-      ]
+  line_written k v has = written_line h k (line k) clean (is.lines k v has) v has
 
   -- the appender of a value, and that of the last value of its list
   to_last : (k : ℕ) (xs : List ℕ) (v x t s : ℕ) → ((v ≡ x) ⊎ StandsBefore xs v x)
@@ -49,33 +45,7 @@ module _ (h : List Transaction) (order : List ℕ) (rank end : ℕ → ℕ) (lin
 
   seen_below : (t r k v : ℕ) (own seen : List ℕ) → Ended h r Committed → Reads h r k own seen → Has seen v
       → Appends h t k v → t ≢ r → rank t < rank r
-  seen_below t r k v own seen committed reads has appends differ =
-      elim (Has-append_cases one.base own v (subst (λ xs. Has xs v) one.ends has)) [
-        | inl w ↦ by_last (last_of one.base v w)
-        | inr w ↦ absurd (differ (once.by_one t r k v appends (mine w)))
-      ]
-    where
-      one : IsClean h r k own seen
-      one = clean r k own seen committed reads
-
-      mine : Has own v → Appends h r k v
-      mine there =
-          let it = read_own (operations_of h r) k [] own seen reads in
-          subst (λ xs. Has xs v) (sym it.1) (Has-append_left own it.0 v there)
-
-      by_last : ((front : List ℕ) × (x : ℕ) × (one.base ≡ front ++ x ∷ []) × ((v ≡ x) ⊎ StandsBefore one.base v x)) → rank t < rank r
-      by_last (front, x, same, either) =
-          let there : Has seen x = subst (λ xs. Has xs x) (sym one.ends)
-          (Has-append_left one.base own x (subst (λ xs. Has xs x) (sym same) (Has-append_right front (x ∷ []) x (inl refl)))) in
-          let who = one.written x there in
-          let below : rank who.0 < rank r = is.last r k own seen front x who.0 committed reads
-          (one.ends ∙ ap (λ xs. xs ++ own) same) who.1 in
-          below_by t who.0 (rank r)
-          (to_last k one.base v x t who.0 either
-          (λ stand. stand_climb h rank k seen v x t who.0 once (is.climbs r k own seen committed reads)
-          (read_written r k own seen committed reads)
-          (subst (λ xs. StandsBefore xs v x) (sym one.ends) (StandsBefore-back one.base own v x stand)) appends who.1)
-          appends who.1) below
+  seen_below = seen_under h rank once clean is.climbs is.last
 
   -- the appender of a value in the line is below the end of the line
   line_below : (k w a : ℕ) → Has (line k) w → Appends h a k w → rank a < end k
@@ -150,19 +120,9 @@ module _ (h : List Transaction) (order : List ℕ) (rank end : ℕ → ℕ) (lin
 
   within : IsByRank h order rank → (t u : ℕ) → MayRun h t → Follows h t u → Has order t
   within ranked t u may follows = elim follows.1 [
-    | inl w ↦ ranked.observed t may (u, w.key, w.value, w.has_seen.1.0, w.seen, w.has_seen.0, w.has_seen.1.1, w.has, w.appends)
+    | inl w ↦ ranked.observed t may (seen_observed h t u w)
     | inr v ↦ elim v [
-      | inl w ↦ ranked.observed t may (
-        w.reader,
-        w.key,
-        w.first,
-        w.has_seen.1.0,
-        w.seen,
-        w.has_seen.0,
-        w.has_seen.1.1,
-        (StandsBefore-has w.seen w.first w.second w.before).0,
-        w.appends_first,
-      )
+      | inl w ↦ ranked.observed t may (both_observed h t u w)
       | inr w ↦ ranked.observed t may (w.reader, w.key, w.first, w.has_seen.1.0, w.seen, w.has_seen.0, w.has_seen.1.1, w.has, w.appends_first)
     ]
   ]

@@ -1,3 +1,4 @@
+pub mod Steps
 pub mod Times
 pub mod Split
 pub mod Chosen

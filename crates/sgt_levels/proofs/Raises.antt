@@ -4,17 +4,18 @@ use Rattle.std.proofs.lemmas.Bool.{cases_eq}
 use Rattle.sgt_appends.specs.declared.transaction.Transaction.{Transaction}
 use Rattle.sgt_appends.specs.declared.transaction.Status.TheVariants.{Committed}
 use Rattle.sgt_appends.specs.Lists.{Has, StandsBefore}
-use Rattle.sgt_appends.specs.Runs.{operations_of, Ended, MayRun}
+use Rattle.sgt_appends.specs.Runs.{Ended, MayRun}
 use Rattle.sgt_appends.specs.Precedences.{Appends, Reads, AppendsOnce}
-use Rattle.sgt_appends.specs.Orders.{IsClean, AllClean, UnknownOnlyAppend}
+use Rattle.sgt_appends.specs.Orders.{AllClean, UnknownOnlyAppend}
 use Rattle.sgt_appends.specs.Linear.{IsKnown, IsByRank}
-use Rattle.sgt_appends.proofs.Words.{Has-append_left, Has-append_right, Has-append_cases, StandsBefore-back, StandsBefore-has, stand_somehow}
-use Rattle.sgt_appends.proofs.Along.{has_or_not, read_own}
-use Rattle.sgt_appends.proofs.Raised.{AreWritten, last_of}
+use Rattle.sgt_appends.proofs.Words.{Has-append_right, Has-append_cases, StandsBefore-has, stand_somehow}
+use Rattle.sgt_appends.proofs.Along.{has_or_not, missed_value}
+use Rattle.sgt_appends.proofs.Raised.{AreWritten, last_of, last_seen, line_written as written_line}
+use Rattle.sgt_appends.proofs.ByRank.{seen_observed, both_observed}
 use Rattle.sgt_levels.specs.Snapshots.{IsSnapshotRun}
 use Rattle.sgt_levels.specs.Levels.{Depends, Comes, IsSplitAlong}
 use Rattle.sgt_levels.specs.Raises.{PassesFrom, Passes, IsSplitRaised}
-use Rattle.sgt_levels.proofs.Chosen.{split_enough}
+use Rattle.sgt_levels.proofs.Chosen.{saw_first, split_enough}
 
 module _ (h : List Transaction) (order : List ℕ) (begin commit end : ℕ → ℕ) (line : ℕ → List ℕ) (once : AppendsOnce h)
     (clean : AllClean h) (is : IsSplitRaised h order begin commit end line) where
@@ -60,43 +61,19 @@ module _ (h : List Transaction) (order : List ℕ) (begin commit end : ℕ → �
   seen_below : (t r k v : ℕ) (own seen : List ℕ) → Ended h r Committed → Reads h r k own seen → Has seen v
       → Appends h t k v → t ≢ r → commit t < begin r
   seen_below t r k v own seen committed reads has appends differ =
-      elim (Has-append_cases one.base own v (subst (λ xs. Has xs v) one.ends has)) [
-        | inl w ↦ by_last (last_of one.base v w)
-        | inr w ↦ absurd (differ (once.by_one t r k v appends (mine w)))
+      let it = last_seen h r k own seen t v once (clean r k own seen committed reads) reads has appends differ in
+      let below : commit it.2 < begin r = is.last r k own seen it.0 it.1 it.2 committed reads it.3 it.4 in
+      elim it.5 [
+        | inl e ↦ omega (arith, below, ap commit (once.by_one t it.2 k it.1 (subst (λ y. Appends h t k y) e appends) it.4))
+        | inr stand ↦ elim (stand_pass k seen v it.1 t it.2 (is.passes r k own seen committed reads)
+            (read_written r k own seen committed reads) stand appends it.4) [
+              | inl e ↦ omega (arith, below, ap commit e)
+              | inr less ↦ omega (arith, below, less, is.begins it.2 k it.1 it.4)
+            ]
       ]
-    where
-      one : IsClean h r k own seen
-      one = clean r k own seen committed reads
-
-      mine : Has own v → Appends h r k v
-      mine there =
-          let it = read_own (operations_of h r) k [] own seen reads in
-          subst (λ xs. Has xs v) (sym it.1) (Has-append_left own it.0 v there)
-
-      by_last : ((front : List ℕ) × (x : ℕ) × (one.base ≡ front ++ x ∷ []) × ((v ≡ x) ⊎ StandsBefore one.base v x)) → commit t < begin r
-      by_last (front, x, same, either) =
-          let there : Has seen x = subst (λ xs. Has xs x) (sym one.ends)
-          (Has-append_left one.base own x (subst (λ xs. Has xs x) (sym same) (Has-append_right front (x ∷ []) x (inl refl)))) in
-          let who = one.written x there in
-          let below : commit who.0 < begin r = is.last r k own seen front x who.0 committed reads
-          (one.ends ∙ ap (λ xs. xs ++ own) same) who.1 in
-          elim either [
-            | inl e ↦ omega (arith, below, ap commit (once.by_one t who.0 k x (subst (λ y. Appends h t k y) e appends) who.1))
-            | inr stand ↦ elim (stand_pass k seen v x t who.0 (is.passes r k own seen committed reads)
-                (read_written r k own seen committed reads)
-                (subst (λ xs. StandsBefore xs v x) (sym one.ends) (StandsBefore-back one.base own v x stand)) appends who.1) [
-                  | inl e ↦ omega (arith, below, ap commit e)
-                  | inr less ↦ omega (arith, below, less, is.begins who.0 k x who.1)
-                ]
-          ]
 
   line_written : (k : ℕ) → AreWritten h k (line k)
-  line_written k v has =
-      let it = is.lines k v has in
-      elim (it.known v has) [
-        | inl w ↦ let who = (clean it.reader k it.own it.seen it.committed it.reads).written v w in (who.0, who.1)
-        | inr w ↦ (it.reader, w)
-      ]
+  line_written k v has = written_line h k (line k) clean (is.lines k v has) v has
 
   -- of an append in the line and one that is not in it
   line_tail : (t u k v w : ℕ) → t ≢ u → Has order u → Appends h t k v → Appends h u k w → Has (line k) v → ¬ Has (line k) w → commit t < begin u
@@ -186,18 +163,8 @@ module _ (h : List Transaction) (order : List ℕ) (begin commit end : ℕ → �
 
   within : IsByRank h order commit → (t u : ℕ) → MayRun h t → Comes h t u → Has order t
   within ranked t u may comes = elim comes.1 [
-    | inl w ↦ ranked.observed t may (u, w.key, w.value, w.has_seen.1.0, w.seen, w.has_seen.0, w.has_seen.1.1, w.has, w.appends)
-    | inr w ↦ ranked.observed t may (
-      w.reader,
-      w.key,
-      w.first,
-      w.has_seen.1.0,
-      w.seen,
-      w.has_seen.0,
-      w.has_seen.1.1,
-      (StandsBefore-has w.seen w.first w.second w.before).0,
-      w.appends_first,
-    )
+    | inl w ↦ ranked.observed t may (seen_observed h t u w)
+    | inr w ↦ ranked.observed t may (both_observed h t u w)
   ]
 
   along : IsByRank h order commit → IsSplitAlong h order begin commit
@@ -220,21 +187,8 @@ split_raised h order begin commit end line once unknown clean is ranked =
 
 pub tail_depends : (h : List Transaction) (t u r k v w : ℕ) (own seen : List ℕ) → AppendsOnce h → t ≢ u → Ended h r Committed
     → Reads h r k own seen → Appends h t k v → Appends h u k w → IsKnown h r k seen v → ¬ IsKnown h r k seen w → Depends h t u
-tail_depends h t u r k v w own seen once differ committed reads one other (inl has) unknown = inl (
-  differ,
-  inr (inr (record {
-    reader = r;
-    key = k;
-    first = v;
-    second = w;
-    seen = seen;
-    appends_first = one;
-    appends_second = other;
-    has_seen = (committed, (own, reads));
-    has = has;
-    has_not = λ there. unknown (inl there);
-  })),
-)
+tail_depends h t u r k v w own seen once differ committed reads one other (inl has) unknown =
+    inl (differ, inr (inr (saw_first h r k t u v w seen (committed, (own, reads)) one other has (λ there. unknown (inl there)))))
 tail_depends h t u r k v w own seen once differ committed reads one other (inr mine) unknown =
     let same : r ≡ t = once.by_one r t k v mine one in
     inr (
@@ -245,13 +199,7 @@ tail_depends h t u r k v w own seen once differ committed reads one other (inr m
         second = w;
         appends_first = one;
         appends_second = other;
-        missed = record {
-          key = k;
-          value = w;
-          seen = seen;
-          appends = other;
-          has_seen = (subst (λ x. Ended h x Committed) same committed, (own, subst (λ x. Reads h x k own seen) same reads));
-          has_not = λ there. unknown (inl there);
-        };
+        missed = missed_value h t k u w seen (subst (λ x. Ended h x Committed) same committed, (own, subst (λ x. Reads h x k own seen) same reads))
+            other (λ there. unknown (inl there));
       },
     )

@@ -5,13 +5,12 @@ use Rattle.sgt_appends.specs.declared.transaction.Transaction.{Transaction}
 use Rattle.sgt_appends.specs.declared.transaction.Status.TheVariants.{Committed}
 use Rattle.sgt_appends.specs.Lists.{Has, IsOnce, StandsBefore}
 use Rattle.sgt_appends.specs.Runs.{operations_of, Ended, MayRun}
-use Rattle.sgt_appends.specs.Precedences.{appended, Appends, Reads, AppendsOnce, WasSeen, WereSeen}
+use Rattle.sgt_appends.specs.Precedences.{appended, Appends, Reads, AppendsOnce, WereSeen}
 use Rattle.sgt_appends.specs.Orders.{UnknownOnlyAppend, AllClean}
 use Rattle.sgt_appends.proofs.Words.{Has-append_left, Has-append_right, Has-append_cases, StandsBefore-cons, StandsBefore-cases, StandsBefore-back, StandsBefore-has, IsOnce-front, not_both, stand_somehow}
-use Rattle.sgt_appends.proofs.Along.{read_own, has_or_not, apart}
-use Rattle.sgt_levels.specs.Levels.{WasLate}
+use Rattle.sgt_appends.proofs.Along.{read_own, has_or_not, apart, IsBase, saw_base, saw_value, saw_both}
 use Rattle.sgt_levels.specs.Commits.{IsCommittedRead, IsCommittedRun, AllWhole, IsAlongCommits}
-use Rattle.sgt_levels.proofs.Chosen.{IsBase, saw_base}
+use Rattle.sgt_levels.proofs.Chosen.{saw_first}
 use Rattle.sgt_levels.proofs.Commits.{joins}
 
 is_before : (before ts : List ℕ) (t u : ℕ) → IsOnce (before ++ t ∷ ts) → StandsBefore (before ++ t ∷ ts) u t → Has before u
@@ -120,47 +119,17 @@ module _ (h : List Transaction) (order : List ℕ) (t k : ℕ) (once : AppendsOn
     (is : IsAlongCommits h order) (committed : Ended h t Committed) (has_t : Has order t) where
   saw : (own seen : List ℕ) → Reads h t k own seen → (u value : ℕ) → MayRun h u → u ≢ t → Appends h u k value → Has seen value → StandsBefore order u t
   saw own seen reads u value may differ appends has =
-      let it : WasSeen h u t = record {
-        key = k;
-        value = value;
-        seen = seen;
-        appends = appends;
-        has_seen = (committed, (own, reads));
-        has = has;
-      } in
-      is.along u t may has_t (differ, inl it)
+      is.along u t may has_t (differ, inl (saw_value h t k u value seen (committed, (own, reads)) appends has))
 
   late : (own seen : List ℕ) → Reads h t k own seen → (w u first second : ℕ) → w ≢ u → MayRun h w → Has order u → Appends h w k first → Appends h u k second
       → Has seen first → ¬ Has seen second → StandsBefore order w u
   late own seen reads w u first second differ may has_u one other has has_not =
-      let it : WasLate h w u = record {
-        reader = t;
-        key = k;
-        first = first;
-        second = second;
-        seen = seen;
-        appends_first = one;
-        appends_second = other;
-        has_seen = (committed, (own, reads));
-        has = has;
-        has_not = has_not;
-      } in
-      is.along w u may has_u (differ, inr (inr it))
+      is.along w u may has_u (differ, inr (inr (saw_first h t k w u first second seen (committed, (own, reads)) one other has has_not)))
 
   turn : (own seen front back : List ℕ) → Reads h t k own seen → order ≡ front ++ back → (u w first second : ℕ) → Has front u → Has front w → u ≢ w → Appends h u k first → Appends h w k second
       → StandsBefore seen first second → StandsBefore front u w
   turn own seen front back reads splits u w first second has_u has_w differ one other stand =
-      let it : WereSeen h u w = record {
-        reader = t;
-        key = k;
-        first = first;
-        second = second;
-        seen = seen;
-        appends_first = one;
-        appends_second = other;
-        has_seen = (committed, (own, reads));
-        before = stand;
-      } in
+      let it : WereSeen h u w = saw_both h t k u w first second seen (committed, (own, reads)) one other stand in
       let in_u : Has order u = subst (λ xs. Has xs u) (sym splits) (Has-append_left front back u has_u) in
       let in_w : Has order w = subst (λ xs. Has xs w) (sym splits) (Has-append_left front back w has_w) in
       let stands : StandsBefore order u w = is.along u w (is.may_run u in_u) in_w (differ, inr (inl it)) in

@@ -7,10 +7,8 @@ use Rattle.sgt_appends.specs.declared.witness.Reason.TheVariants.{Seen, Missed, 
 use Rattle.sgt_appends.specs.declared.transaction.Transaction.{Transaction}
 use Rattle.sgt_appends.specs.Lists.{Has}
 use Rattle.sgt_appends.specs.Precedences.{AppendsOnce}
-use Rattle.sgt_appends.specs.Reads.{own_at}
 use Rattle.sgt_appends.specs.Witnesses.{IsShown, EdgeIsShown, AreShown, EdgesLead, IsEdgeCycle}
-use Rattle.sgt_appends.proofs.Filed.{at_appends}
-use Rattle.sgt_appends.proofs.Passed.{reads_at}
+use Rattle.sgt_appends.proofs.Loops.{shown_seen, shown_missed, shown_in_order}
 use Rattle.sgt_appends.proofs.Orders.{place_of}
 use Rattle.sgt_levels.specs.Snapshots.{IsSnapshotRun, IsSnapshotIsolated}
 use Rattle.sgt_levels.specs.Levels.{Follows, Misses}
@@ -22,47 +20,15 @@ use Rattle.sgt_levels.proofs.Commits.{committed_follows, place_less, follows_in 
 -- what an edge shows
 edge_follows : (h : List Transaction) (from to : ℕ) (reason : Reason) → from ≢ to → IsShown h from to reason → is_miss reason ≡ false
     → Follows h from to
-edge_follows h from to (Seen append read) differ (k, v, seen, appends, reads, has) no_miss = (
-  differ,
-  inl (record {
-    key = k;
-    value = v;
-    seen = seen;
-    appends = at_appends h from append k v appends;
-    has_seen = (reads.0, (own_at h to read k, reads_at h to read k seen reads.1));
-    has = has;
-  }),
-)
+edge_follows h from to (Seen append read) differ shown no_miss = (differ, inl (shown_seen h from to append read shown))
 edge_follows h from to (Missed read append) differ shown no_miss = absurd (true≢false no_miss)
-edge_follows h from to (InOrder first second reader read) differ (k, v, w, seen, one, other, reads, stands) no_miss = (
-  differ,
-  inr (inl (record {
-    reader = reader;
-    key = k;
-    first = v;
-    second = w;
-    seen = seen;
-    appends_first = at_appends h from first k v one;
-    appends_second = at_appends h to second k w other;
-    has_seen = (reads.0, (own_at h reader read k, reads_at h reader read k seen reads.1));
-    before = stands;
-  })),
-)
+edge_follows h from to (InOrder first second reader read) differ shown no_miss =
+    (differ, inr (inl (shown_in_order h from to first second reader read shown)))
 
 edge_misses : (h : List Transaction) (from to : ℕ) (reason : Reason) → from ≢ to → IsShown h from to reason → is_miss reason ≡ true
     → Misses h from to
 edge_misses h from to (Seen append read) differ shown miss = absurd (false≢true miss)
-edge_misses h from to (Missed read append) differ (k, v, seen, appends, reads, has_not) miss = (
-  differ,
-  record {
-    key = k;
-    value = v;
-    seen = seen;
-    appends = at_appends h to append k v appends;
-    has_seen = (reads.0, (own_at h from read k, reads_at h from read k seen reads.1));
-    has_not = has_not;
-  },
-)
+edge_misses h from to (Missed read append) differ shown miss = (differ, shown_missed h from to read append shown)
 edge_misses h from to (InOrder first second reader read) differ shown miss = absurd (false≢true miss)
 
 -- the time at which an edge arrives: after a miss that of the commit, else that of the begin

@@ -1,5 +1,5 @@
 -- Write orders: what each read shows of them, and cycles that leave none.
-use Rattle.std.proofs.Common.{◌≡◌, ◌≢◌, ◌<◌, ◌≤◌, ◌+◌, ◌⊎◌, ℕ, zero, suc, Bool, true, false, List, [], ◌∷◌, ◌++◌, Option, Some, None, take, drop, length, get_or, refl, sym, ap, ◌∙◌, subst, inl, inr, arith, append-nil, take-append-drop}
+use Rattle.std.proofs.Common.{◌≡◌, ◌≢◌, ◌<◌, ◌≤◌, ◌+◌, ℕ, zero, suc, Bool, true, false, List, [], ◌∷◌, ◌++◌, Option, Some, None, take, drop, length, get_or, refl, sym, ap, ◌∙◌, subst, inl, inr, arith, append-nil, take-append-drop}
 use Rattle.std.proofs.lemmas.Bool.{cases_eq}
 use Rattle.std.proofs.lemmas.List.{take_more}
 use Rattle.sgt_appends.specs.declared.transaction.Operation.TheVariants.{Read}
@@ -11,7 +11,7 @@ use Rattle.sgt_appends.specs.Precedences.{appended, Appends, AppendsOnce, WereSe
 use Rattle.sgt_appends.specs.Guides.{appended_by}
 use Rattle.sgt_appends.specs.Indexes.{Positions, IsIndex}
 use Rattle.sgt_appends.specs.Reads.{IsReadAt}
-use Rattle.sgt_appends.proofs.Words.{Has-append_left, Has-append_right, Has-append_cases, StandsBefore-cons, StandsBefore-back, StandsBefore-cases, StandsBefore-has, stand_somehow, not_both}
+use Rattle.sgt_appends.proofs.Words.{Has-append_left, Has-append_right, Has-append_cases, StandsBefore-back, StandsBefore-has, stand_somehow, not_both, across, last_stands}
 use Rattle.sgt_appends.proofs.Along.{as_these}
 use Rattle.sgt_appends.proofs.Faulty.{appended_once}
 use Rattle.sgt_appends.proofs.Orders.{place_of}
@@ -20,7 +20,7 @@ use Rattle.sgt_appends.proofs.Passed.{at_reads, same_read_at, stands_within, end
 use Rattle.sgt_appends.proofs.Running.{appended_has}
 use Rattle.sgt_levels.specs.Commits.{IsCommittedRun}
 use Rattle.sgt_levels.specs.Levels.{WasLate}
-use Rattle.sgt_levels.specs.WriteOrders.{Overwrites, IsWriteOrder, IsReadUncommitted, IsWritePath, WritesReach, IsWritten, AreKept, AreFirst, FitsAt, FitsIn, AllFit}
+use Rattle.sgt_levels.specs.WriteOrders.{IsWriteOrder, IsReadUncommitted, IsWritePath, IsWritten, AreKept, AreFirst, FitsAt, FitsIn, AllFit}
 use Rattle.sgt_levels.proofs.Commits.{committed_follows, place_less}
 use Rattle.sgt_levels.proofs.Fronts.{appended_by-append}
 
@@ -41,46 +41,6 @@ path_rises h order t (v ∷ others) u once is path =
 -- a cycle leaves no write order
 pub write_cycle : (h : List Transaction) (t : ℕ) (others : List ℕ) → AppendsOnce h → IsWritePath h t others t → ¬ IsReadUncommitted h
 write_cycle h t others once path it = omega (arith, path_rises h it.0 t others t once it.1 path)
-
-path_more : (h : List Transaction) (t : ℕ) (others : List ℕ) (u v : ℕ) → IsWritePath h t others u → Overwrites h u v
-    → IsWritePath h t (others ++ u ∷ []) v
-path_more h t [] u v path step = (path, step)
-path_more h t (x ∷ others) u v path step = (path.0, path_more h x others u v path.1 step)
-
--- one step more
-pub reach_one : (h : List Transaction) (i t u v : ℕ) → WritesReach h i t u → Overwrites h u v → WritesReach h (i + 1) t v
-reach_one h i t u v (inl none) step = inr (omega arith, ([], subst (λ x. Overwrites h x v) (sym none.1) step))
-reach_one h i t u v (inr some) step = inr (omega arith, (some.1.0 ++ u ∷ [], path_more h t some.1.0 u v some.1.1 step))
-
-pub reach_closed : (h : List Transaction) (i t u : ℕ) → AppendsOnce h → 0 < i → WritesReach h i t u → u ≡ t → ¬ IsReadUncommitted h
-reach_closed h i t u once some (inl none) same = absurd (omega (arith, some, none.0))
-reach_closed h i t u once some (inr it) same = write_cycle h t it.1.0 once (subst (λ x. IsWritePath h t it.1.0 x) same it.1.1)
-
--- lists with one value more
-across : (xs ys : List ℕ) (x y : ℕ) → Has xs x → Has ys y → StandsBefore (xs ++ ys) x y
-across [] ys x y has there = absurd has
-across (z ∷ xs) ys x y (inl same) there = ([], xs ++ ys, ap (λ w. w ∷ (xs ++ ys)) same, Has-append_right xs ys y there)
-across (z ∷ xs) ys x y (inr later) there = StandsBefore-cons z (xs ++ ys) x y (across xs ys x y later there)
-
-last_stands : (xs : List ℕ) (x v w : ℕ) → StandsBefore (xs ++ x ∷ []) v w → StandsBefore xs v w ⊎ (Has xs v × (x ≡ w))
-last_stands [] x v w it = elim (StandsBefore-cases x [] v w it) [
-  | inl a ↦ absurd a.1
-  | inr a ↦ absurd (StandsBefore-has [] v w a).0
-]
-last_stands (z ∷ xs) x v w it = elim (StandsBefore-cases z (xs ++ x ∷ []) v w it) [
-  | inl a ↦ elim (Has-append_cases xs (x ∷ []) w a.1) [
-    | inl b ↦ inl ([], xs, ap (λ q. q ∷ xs) a.0, b)
-    | inr b ↦ inr (inl a.0, only x w b)
-  ]
-  | inr a ↦ elim (last_stands xs x v w a) [
-    | inl b ↦ inl (StandsBefore-cons z xs v w b)
-    | inr b ↦ inr (inr b.0, b.1)
-  ]
-]
-  where
-    only : (x w : ℕ) → Has (x ∷ []) w → x ≡ w
-    only x w (inl same) = same
-    only x w (inr none) = absurd none
 
 pub kept_none : (h : List Transaction) (k : ℕ) → AreKept h k [] []
 kept_none h k = record {

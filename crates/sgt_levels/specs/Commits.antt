@@ -1,5 +1,5 @@
 -- Read committed: each read sees the list that those have left that had committed by then, with its own appends.
-use Rattle.std.specs.Prelude.{◌≡◌, ◌≢◌, ◌⊎◌, ◌++◌, ℕ, List, [], ◌∷◌}
+use Rattle.std.specs.Prelude.{◌≡◌, ◌≢◌, ◌⊎◌, ◌++◌, ℕ, List, []}
 use Rattle.sgt_appends.specs.declared.transaction.Status.TheVariants.{Committed}
 use Rattle.sgt_appends.specs.declared.transaction.Transaction.{Transaction}
 use Rattle.sgt_appends.specs.Lists.{Has, IsOnce, StandsBefore}
@@ -8,6 +8,7 @@ use Rattle.sgt_appends.specs.Precedences.{Appends, Reads, AppendsOnce}
 use Rattle.sgt_appends.specs.Guides.{appended_by}
 use Rattle.sgt_appends.specs.Faults.{IsFault}
 use Rattle.sgt_appends.specs.Orders.{UnknownOnlyAppend, AllClean}
+use Rattle.sgt_levels.specs.Steps.{PathBy}
 use Rattle.sgt_levels.specs.Levels.{Follows}
 
 -- A read of t at the key sees what a front of the order has left, those that had committed by then, and then its own
@@ -40,8 +41,7 @@ CommitsAreObeyed = (h : List Transaction) (order : List ℕ) (t u : ℕ) → App
 
 -- a path on which each follows the one before it
 abbrev pub IsCommittedPath : List Transaction → ℕ → List ℕ → ℕ → Type 0
-IsCommittedPath h t [] u = Follows h t u
-IsCommittedPath h t (v ∷ others) u = Follows h t v × IsCommittedPath h v others u
+IsCommittedPath h = PathBy (Follows h)
 
 -- a cycle of such steps leaves no run of committed reads
 abbrev pub CommittedCyclesAreEnough : Type 0

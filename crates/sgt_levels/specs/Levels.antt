@@ -1,5 +1,5 @@
 -- The edges of the weaker levels, and what they say of each run.
-use Rattle.std.specs.Prelude.{◌≢◌, ◌<◌, ◌≤◌, ◌⊎◌, ℕ, List, [], ◌∷◌}
+use Rattle.std.specs.Prelude.{◌≢◌, ◌<◌, ◌≤◌, ◌⊎◌, ℕ, List}
 use Rattle.sgt_appends.specs.declared.transaction.Status.TheVariants.{Committed}
 use Rattle.sgt_appends.specs.declared.transaction.Transaction.{Transaction}
 use Rattle.sgt_appends.specs.Lists.{Has, Rises}
@@ -7,6 +7,7 @@ use Rattle.sgt_appends.specs.Runs.{Ended, MayRun}
 use Rattle.sgt_appends.specs.Precedences.{Appends, Reads, HasSeen, AppendsOnce, WasSeen, WasMissed, WereSeen}
 use Rattle.sgt_appends.specs.Faults.{IsFault}
 use Rattle.sgt_appends.specs.Orders.{UnknownOnlyAppend, AllClean}
+use Rattle.sgt_levels.specs.Steps.{PathBy}
 use Rattle.sgt_levels.specs.Snapshots.{IsSnapshotRun, IsSnapshotIsolated}
 
 -- a reader saw a value of t, and none yet of u at the same key
@@ -55,8 +56,7 @@ Leads h t v = Depends h t v ⊎ ((u : ℕ) × Depends h t u × Misses h u v)
 
 -- a path of such steps: no two misses are next to one another
 abbrev pub IsSnapshotPath : List Transaction → ℕ → List ℕ → ℕ → Type 0
-IsSnapshotPath h t [] u = Leads h t u
-IsSnapshotPath h t (v ∷ others) u = Leads h t v × IsSnapshotPath h v others u
+IsSnapshotPath h = PathBy (Leads h)
 
 -- a cycle without two misses next to one another leaves no snapshot run
 abbrev pub SnapshotCyclesAreEnough : Type 0

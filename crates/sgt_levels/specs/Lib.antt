@@ -1,3 +1,4 @@
+pub mod Steps
 pub mod Snapshots
 pub mod Levels
 pub mod Commits

@@ -1,11 +1,12 @@
 -- Read uncommitted, PL-1: committed transactions write in one order, the same at all keys.
-use Rattle.std.specs.Prelude.{◌≡◌, ◌≢◌, ◌⊎◌, ◌<◌, ℕ, List, [], ◌∷◌, take}
+use Rattle.std.specs.Prelude.{◌≢◌, ◌⊎◌, ℕ, List, take}
 use Rattle.sgt_appends.specs.declared.transaction.Status.TheVariants.{Committed}
 use Rattle.sgt_appends.specs.declared.transaction.Transaction.{Transaction}
 use Rattle.sgt_appends.specs.Lists.{Has, IsOnce, StandsBefore}
 use Rattle.sgt_appends.specs.Reads.{IsReadAt}
 use Rattle.sgt_appends.specs.Runs.{Ended}
 use Rattle.sgt_appends.specs.Precedences.{Appends, AppendsOnce, WereSeen}
+use Rattle.sgt_levels.specs.Steps.{PathBy}
 use Rattle.sgt_levels.specs.Levels.{WasLate}
 use Rattle.sgt_levels.specs.Commits.{IsCommittedRun}
 
@@ -27,8 +28,7 @@ IsReadUncommitted h = (order : List ℕ) × IsWriteOrder h order
 
 -- a path on which each is overwritten by the next
 abbrev pub IsWritePath : List Transaction → ℕ → List ℕ → ℕ → Type 0
-IsWritePath h t [] u = Overwrites h t u
-IsWritePath h t (v ∷ others) u = Overwrites h t v × IsWritePath h v others u
+IsWritePath h = PathBy (Overwrites h)
 
 -- a cycle of such steps leaves no write order
 abbrev pub WriteCyclesAreEnough : Type 0
@@ -37,10 +37,6 @@ WriteCyclesAreEnough = (h : List Transaction) (t : ℕ) (others : List ℕ) → 
 -- a run of committed reads is a write order
 abbrev pub CommittedIsUncommitted : Type 0
 CommittedIsUncommitted = (h : List Transaction) (order : List ℕ) → IsCommittedRun h order → IsWriteOrder h order
-
--- i steps lead from t to u, each of which is overwritten by the next
-abbrev pub WritesReach : List Transaction → ℕ → ℕ → ℕ → Type 0
-WritesReach h i t u = ((i ≡ 0) × (t ≡ u)) ⊎ ((0 < i) × ((others : List ℕ) × IsWritePath h t others u))
 
 -- a committed transaction appends the value to the key
 abbrev pub IsWritten : List Transaction → ℕ → ℕ → Type 0

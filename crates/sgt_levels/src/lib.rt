@@ -1,4 +1,5 @@
-//! Levels of isolation of what clients saw, in the list-append model.
+//! Levels of isolation of what clients saw, in the list-append model. Like `sgt_appends`, this crate knows nothing of the
+//! engine.
 //!
 //! Snapshot isolation (`specs/Snapshots.antt`) and read committed (`specs/Commits.antt`), beside the serial runs of
 //! `sgt_appends`, each by its runs and by the edges between transactions; and read uncommitted, PL-1, by orders of writes

@@ -1,13 +1,16 @@
 //! Ties: why in each run of a level one transaction comes before another.
-ghost use Rattle.std.specs.Prelude.{◌+◌, ℕ, IsTrue, IfSome};
-ghost use Rattle.sgt_appends.specs.Precedences.{AppendsOnce, WasSeen, WereSeen, WasMissed};
+ghost use Rattle.std.specs.Prelude.{◌≡◌, ◌≢◌, ◌+◌, ◌⊎◌, ℕ, List, IsTrue, IfSome};
+ghost use Rattle.sgt_appends.specs.Precedences.{AppendsOnce, WereSeen};
+ghost use Rattle.sgt_appends.specs.Witnesses.{IsShown};
 ghost use Rattle.sgt_levels.specs.Levels.{WasLate, MustWait, Follows, Depends, Misses};
 ghost use Rattle.sgt_levels.specs.Snapshots.{IsSnapshotIsolated};
 ghost use Rattle.sgt_levels.specs.Commits.{IsReadCommitted};
-ghost use Rattle.sgt_levels.specs.Ties.{IsPending};
+ghost use Rattle.sgt_levels.specs.Steps.{PathBy};
+ghost use Rattle.sgt_levels.specs.Ties.{IsPending, StepOf};
 
 use crate::survey::Partial;
-use sgt_appends::{Transaction, append_at, has, read_at, stands_before};
+use crate::writes::overwrites;
+use sgt_appends::{Edge, Reason, Transaction, append_at, has, is_shown, read_of_two};
 
 /// Why one transaction comes before another. Operations are named by their positions in their transactions.
 #[derive(Clone, Copy, Debug, PartialEq, Eq)]
@@ -98,10 +101,26 @@ fn pass(history: &[Transaction], passage: &Passage, waits: bool) -> Option<bool>
     }
 }
 
+/// What each tie of a cycle shows.
+#[derive(Clone, Copy)]
+pub(crate) enum Kind {
+    /// The later one follows the earlier one.
+    Follows,
+    /// The later one overwrites the earlier one.
+    Overwrites,
+}
+
 /// Whether the ties are a cycle that leaves no run of committed reads.
 pub fn rules_out_committed(history: &[Transaction], ties: &[Tie]) -> bool
     requires { AppendsOnce history.now }
     ensures { IsTrue result → ¬ IsReadCommitted history.now }
+{
+    is_cycle(history, ties, Kind::Follows)
+}
+
+/// Whether the ties are a cycle of the kind.
+pub(crate) fn is_cycle(history: &[Transaction], ties: &[Tie], kind: Kind) -> bool
+    ensures { IsTrue result → (t : ℕ) × (others : List ℕ) × PathBy (StepOf history.now kind) t others t }
 {
     if ties.is_empty() {
         return false;
@@ -109,12 +128,22 @@ pub fn rules_out_committed(history: &[Transaction], ties: &[Tie]) -> bool
     let start = ties[0].from;
     let mut at = start;
     for tie in ties {
-        if tie.from != at || !follows(history, tie) {
+        if tie.from != at || !is_step(history, tie, kind) {
             return false;
         }
         at = tie.to;
     }
     at == start
+}
+
+/// Whether the tie is one of the kind.
+fn is_step(history: &[Transaction], tie: &Tie, kind: Kind) -> bool
+    ensures { IsTrue result → StepOf history.now kind tie.now.from tie.now.to }
+{
+    match kind {
+        Kind::Follows => follows(history, tie),
+        Kind::Overwrites => overwrites(history, tie),
+    }
 }
 
 /// Whether the ties are a cycle that leaves no snapshot run: it begins with a tie that is no miss, and no two misses
@@ -166,43 +195,59 @@ pub fn rules_out_partial(history: &[Transaction], partial: &Partial) -> bool
     if partial.by == partial.reader {
         return false;
     }
-    let Some((key, value)) = append_at(history, partial.by, partial.seen) else {
-        return false;
-    };
-    let Some((other_key, other)) = append_at(history, partial.by, partial.missed) else {
-        return false;
-    };
-    if key != other_key {
-        return false;
-    }
-    match read_at(history, partial.reader, partial.read, key) {
-        Some(seen) => has(seen, value) && !has(seen, other),
-        None => false,
-    }
+    saw_one(
+        history,
+        partial.by,
+        partial.seen,
+        partial.by,
+        partial.missed,
+        partial.reader,
+        partial.read,
+    )
 }
 
 /// Whether the later one of the tie follows the earlier one.
 fn follows(history: &[Transaction], tie: &Tie) -> bool
     ensures { IsTrue result → Follows history.now tie.now.from tie.now.to }
 {
+    match tie.ground {
+        Ground::Seen { append, read } => {
+            shows(history, tie.from, tie.to, Reason::Seen { append, read })
+        }
+        _ => came_first(history, tie),
+    }
+}
+
+/// Whether a reader saw a value of the earlier one of the tie before one of the later one, or without it.
+pub(crate) fn came_first(history: &[Transaction], tie: &Tie) -> bool
+    ensures { IsTrue result → (tie.now.from ≢ tie.now.to)
+        × (WereSeen history.now tie.now.from tie.now.to ⊎ WasLate history.now tie.now.from tie.now.to) }
+{
     if tie.from == tie.to {
         return false;
     }
     match tie.ground {
-        Ground::Seen { append, read } => was_seen(history, tie.from, tie.to, append, read),
         Ground::InOrder {
             first,
             second,
             reader,
             read,
-        } => were_seen(history, tie.from, tie.to, first, second, reader, read),
+        } => {
+            let reason = Reason::InOrder {
+                first,
+                second,
+                reader,
+                read,
+            };
+            shows(history, tie.from, tie.to, reason)
+        }
         Ground::Late {
             first,
             second,
             reader,
             read,
-        } => was_late(history, tie.from, tie.to, first, second, reader, read),
-        Ground::Wait { .. } | Ground::Missed { .. } => false,
+        } => saw_one(history, tie.from, first, tie.to, second, reader, read),
+        _ => false,
     }
 }
 
@@ -216,9 +261,7 @@ fn depends(history: &[Transaction], tie: &Tie) -> bool
             second,
             read,
             append,
-        } => {
-            tie.from != tie.to && must_wait(history, tie.from, tie.to, first, second, read, append)
-        }
+        } => must_wait(history, tie.from, tie.to, first, second, read, append),
         _ => follows(history, tie),
     }
 }
@@ -228,85 +271,38 @@ fn misses(history: &[Transaction], tie: &Tie) -> bool
     ensures { IsTrue result → Misses history.now tie.now.from tie.now.to }
 {
     match tie.ground {
-        Ground::Missed { read, append } => {
-            tie.from != tie.to && was_missed(history, tie.from, tie.to, read, append)
-        }
+        Ground::Missed { read, append } => was_missed(history, tie.from, tie.to, read, append),
         _ => false,
     }
 }
 
-fn was_seen(history: &[Transaction], from: usize, to: usize, append: usize, read: usize) -> bool
-    ensures { IsTrue result → WasSeen history.now from to }
+/// Whether the operations of the reason show that the one transaction precedes the other.
+fn shows(history: &[Transaction], from: usize, to: usize, reason: Reason) -> bool
+    ensures { IsTrue result → (from ≢ to) × IsShown history.now from to reason }
 {
-    let Some((key, value)) = append_at(history, from, append) else {
-        return false;
-    };
-    match read_at(history, to, read, key) {
-        Some(seen) => has(seen, value),
-        None => false,
-    }
+    is_shown(history, &Edge { from, to, reason })
 }
 
 fn was_missed(history: &[Transaction], from: usize, to: usize, read: usize, append: usize) -> bool
-    ensures { IsTrue result → WasMissed history.now from to }
+    ensures { IsTrue result → Misses history.now from to }
 {
-    let Some((key, value)) = append_at(history, to, append) else {
-        return false;
-    };
-    match read_at(history, from, read, key) {
-        Some(seen) => !has(seen, value),
-        None => false,
-    }
+    shows(history, from, to, Reason::Missed { read, append })
 }
 
-pub(crate) fn were_seen(
+/// Whether the read saw the value of the first append, and not that of the second one to the same key.
+fn saw_one(
     history: &[Transaction],
     from: usize,
-    to: usize,
     first: usize,
+    to: usize,
     second: usize,
     reader: usize,
     read: usize,
 ) -> bool
-    ensures { IsTrue result → WereSeen history.now from to }
+    ensures { IsTrue result → (w : WasLate history.now from to) × (w.reader ≡ reader) }
 {
-    let Some((key, value)) = append_at(history, from, first) else {
-        return false;
-    };
-    let Some((other_key, other)) = append_at(history, to, second) else {
-        return false;
-    };
-    if key != other_key {
-        return false;
-    }
-    match read_at(history, reader, read, key) {
-        Some(seen) => stands_before(seen, value, other),
-        None => false,
-    }
-}
-
-pub(crate) fn was_late(
-    history: &[Transaction],
-    from: usize,
-    to: usize,
-    first: usize,
-    second: usize,
-    reader: usize,
-    read: usize,
-) -> bool
-    ensures { IsTrue result → WasLate history.now from to }
-{
-    let Some((key, value)) = append_at(history, from, first) else {
-        return false;
-    };
-    let Some((other_key, other)) = append_at(history, to, second) else {
-        return false;
-    };
-    if key != other_key {
-        return false;
-    }
-    match read_at(history, reader, read, key) {
-        Some(seen) => has(seen, value) && !has(seen, other),
+    match read_of_two(history, from, first, to, second, reader, read) {
+        Some(it) => has(it.seen, it.first) && !has(it.seen, it.second),
         None => false,
     }
 }
@@ -320,7 +316,7 @@ fn must_wait(
     read: usize,
     append: usize,
 ) -> bool
-    ensures { IsTrue result → MustWait history.now from to }
+    ensures { IsTrue result → (from ≢ to) × MustWait history.now from to }
 {
     let Some((key, _)) = append_at(history, from, first) else {
         return false;

@@ -1,12 +1,13 @@
 //! What leaves snapshot isolation undecided: two appends to one key that no read saw.
-ghost use Rattle.std.specs.Prelude.{◌≡◌, IsTrue, IfOk, IfSome};
+ghost use Rattle.std.specs.Prelude.{IsTrue, IfOk, IfSome};
 ghost use Rattle.sgt_appends.specs.Indexes.{AppendAt};
 ghost use Rattle.sgt_appends.specs.Runs.{Ended};
 ghost use Rattle.sgt_appends.specs.declared.transaction.Status.TheVariants.{Committed};
 ghost use Rattle.sgt_levels.specs.Unseen.{NoneSaw, MissesIn, MissesAt, AreUnseen};
 
 use crate::survey::{Survey, length_of};
-use sgt_appends::{AppendIndex, Operation, Status, Transaction, has, read_of};
+use crate::writes::has_committed;
+use sgt_appends::{AppendIndex, Transaction, append_at, has, read_of};
 use sgt_model::NoMemory;
 use std::alloc::Global;
 use std::collections::BTreeMap;
@@ -102,14 +103,11 @@ fn append_of(history: &[Transaction], number: usize, position: usize) -> Option<
     ensures ended { IfSome result (λ x. Ended history.now number Committed) }
     ensures at { IfSome result (λ x. AppendAt history.now number position x.0 x.1) }
 {
-    let transaction = history.get(number)?;
-    if transaction.status != Status::Committed {
+    if !has_committed(history, number) {
         return None;
     }
-    match transaction.operations.get(position)? {
-        Operation::Append { key, value } => Some((*key, *value)),
-        Operation::Read { .. } => None,
-    }
+    let (key, value) = append_at(history, number, position)?;
+    Some((key, value))
 }
 
 /// Whether no committed transaction saw the value at the key.

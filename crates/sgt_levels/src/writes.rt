@@ -10,7 +10,7 @@ ghost use Rattle.sgt_levels.specs.WriteOrders.{Overwrites, IsWriteOrder, IsReadU
 
 use crate::columns::Columns;
 use crate::survey::length_of;
-use crate::tie::{Ground, Tie, was_late, were_seen};
+use crate::tie::{Kind, Tie, came_first, is_cycle};
 use sgt_appends::{AppendIndex, Status, Transaction, names_each, read_of};
 use sgt_model::NoMemory;
 use std::alloc::Global;
@@ -175,7 +175,7 @@ fn is_written(history: &[Transaction], appends: &AppendIndex, key: u32, value: u
 }
 
 /// Whether the transaction committed.
-fn has_committed(history: &[Transaction], number: usize) -> bool
+pub(crate) fn has_committed(history: &[Transaction], number: usize) -> bool
     ensures yes { IsTrue result → Ended history.now number Committed }
     ensures no { (¬ IsTrue result) → ¬ Ended history.now number Committed }
 {
@@ -202,43 +202,15 @@ pub fn rules_out_uncommitted(history: &[Transaction], ties: &[Tie]) -> bool
     requires { AppendsOnce history.now }
     ensures { IsTrue result → ¬ IsReadUncommitted history.now }
 {
-    if ties.is_empty() {
-        return false;
-    }
-    let start = ties[0].from;
-    let mut at = start;
-    for tie in ties {
-        if tie.from != at || !overwrites(history, tie) {
-            return false;
-        }
-        at = tie.to;
-    }
-    at == start
+    is_cycle(history, ties, Kind::Overwrites)
 }
 
 /// Whether the later one of the tie overwrites the earlier one, and both committed.
-fn overwrites(history: &[Transaction], tie: &Tie) -> bool
+pub(crate) fn overwrites(history: &[Transaction], tie: &Tie) -> bool
     ensures { IsTrue result → Overwrites history.now tie.now.from tie.now.to }
 {
-    if tie.from == tie.to {
-        return false;
-    }
     if !has_committed(history, tie.from) || !has_committed(history, tie.to) {
         return false;
     }
-    match tie.ground {
-        Ground::InOrder {
-            first,
-            second,
-            reader,
-            read,
-        } => were_seen(history, tie.from, tie.to, first, second, reader, read),
-        Ground::Late {
-            first,
-            second,
-            reader,
-            read,
-        } => was_late(history, tie.from, tie.to, first, second, reader, read),
-        Ground::Seen { .. } | Ground::Wait { .. } | Ground::Missed { .. } => false,
-    }
+    came_first(history, tie)
 }

@@ -103,6 +103,13 @@ four_are word s t u v d is =
       k.3,
     )
 
+-- of two expressions
+two_read : (word : List ℕ) (a b : ExprText) (d : Data) → ((x : Data) → SpellsTerm a x → expression x ≡ Ok a)
+    → ((x : Data) → SpellsTerm b x → expression x ≡ Ok b) → WordAnd word (SpellsTerm a ∷ SpellsTerm b ∷ []) d
+    → (x y : Data) × (d ≡ array (item (string word) (item x (item y no_items)))) × (expression x ≡ Ok a) × (expression y ≡ Ok b)
+two_read word a b d read_a read_b is =
+    let r = two_are word (SpellsTerm a) (SpellsTerm b) d is in (r.0, r.1, r.2, read_a r.0 r.3, read_b r.1 r.4)
+
 -- an expression
 read_term : (e : ExprText) (d : Data) → SpellsTerm e d → expression d ≡ Ok e
 read_term (num z) null is = absurd (cc)
@@ -118,29 +125,22 @@ read_term (reg n) d is =
     let r = one_is (codes "reg") (Byte n) d is in
     rw r.1 (ap (one reg) (read_byte n 1 r.0 r.2))
 read_term (sum a b) d is =
-    let r = two_are (codes "sum") (SpellsTerm a) (SpellsTerm b) d is in
-    rw r.2 (rw (read_term a r.0 r.3, read_term b r.1 r.4) refl)
+    let r = two_read (codes "sum") a b d (read_term a) (read_term b) is in rw r.2 (rw (r.3, r.4) refl)
 read_term (diff a b) d is =
-    let r = two_are (codes "diff") (SpellsTerm a) (SpellsTerm b) d is in
-    rw r.2 (rw (read_term a r.0 r.3, read_term b r.1 r.4) refl)
+    let r = two_read (codes "diff") a b d (read_term a) (read_term b) is in rw r.2 (rw (r.3, r.4) refl)
 read_term (product a b) d is =
-    let r = two_are (codes "product") (SpellsTerm a) (SpellsTerm b) d is in
-    rw r.2 (rw (read_term a r.0 r.3, read_term b r.1 r.4) refl)
+    let r = two_read (codes "product") a b d (read_term a) (read_term b) is in rw r.2 (rw (r.3, r.4) refl)
 read_term (quotient a b) d is =
-    let r = two_are (codes "quotient") (SpellsTerm a) (SpellsTerm b) d is in
-    rw r.2 (rw (read_term a r.0 r.3, read_term b r.1 r.4) refl)
+    let r = two_read (codes "quotient") a b d (read_term a) (read_term b) is in rw r.2 (rw (r.3, r.4) refl)
 
 -- a condition
 read_test : (t : CondText) (d : Data) → SpellsTest t d → condition d ≡ Ok t
 read_test (less a b) d is =
-    let r = two_are (codes "less") (SpellsTerm a) (SpellsTerm b) d is in
-    rw r.2 (rw (read_term a r.0 r.3, read_term b r.1 r.4) refl)
+    let r = two_read (codes "less") a b d (read_term a) (read_term b) is in rw r.2 (rw (r.3, r.4) refl)
 read_test (at_most a b) d is =
-    let r = two_are (codes "most") (SpellsTerm a) (SpellsTerm b) d is in
-    rw r.2 (rw (read_term a r.0 r.3, read_term b r.1 r.4) refl)
+    let r = two_read (codes "most") a b d (read_term a) (read_term b) is in rw r.2 (rw (r.3, r.4) refl)
 read_test (equal a b) d is =
-    let r = two_are (codes "same") (SpellsTerm a) (SpellsTerm b) d is in
-    rw r.2 (rw (read_term a r.0 r.3, read_term b r.1 r.4) refl)
+    let r = two_read (codes "same") a b d (read_term a) (read_term b) is in rw r.2 (rw (r.3, r.4) refl)
 
 -- a list of statements
 read_list : (b : Block) (d : Data) → ((items : Items) → SpellsBlock b items → statements 0 items ≡ Ok b) → Listed (SpellsBlock b) d

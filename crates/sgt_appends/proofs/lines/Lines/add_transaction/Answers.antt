@@ -1,11 +1,10 @@
-use Rattle.std.proofs.Common.{rules, ◌≡◌, ◌≤◌, ◌+◌, ◌++◌, ◌∷◌, [], Some, None, take, sym, ap, ◌∙◌, subst, length, arith}
+use Rattle.std.proofs.Common.{rules, ◌≡◌, ◌≤◌, Some, None, sym, ap, subst, length, arith}
 use Rattle.std.specs.Prelude.{slice_get}
 use Rattle.std.proofs.lemmas.Grind.{common_steps}
 use Rattle.std.proofs.lemmas.Option.{gets}
-use Rattle.sgt_appends.specs.Precedences.{appended}
-use Rattle.sgt_appends.specs.Runs.{operations_or_none, operations_of}
+use Rattle.sgt_appends.specs.Runs.{operations_or_none}
 use Rattle.sgt_appends.specs.Lines.{line_in, keys_in}
-use Rattle.sgt_appends.proofs.Added.{appended_more}
+use Rattle.sgt_appends.proofs.Added.{own_next}
 use Rattle.sgt_appends.proofs.Longest.{lines_next}
 use Rattle.sgt_appends.proofs.lines.Lines.add_transaction.Goals as goal
 
@@ -27,14 +26,9 @@ pub loop-position-preserved : goal.loop-position-preserved
 loop-position-preserved c =
     let there : slice_get c.args.history.now c.args.number ≡ Some c.in-Some.transaction.now =
     grind (arith, common_steps, gets, c.in-Some.ensures.lookup) in
-    let are : operations_of c.args.history.now c.args.number ≡ c.deref-operation-items.result.now =
-    ap operations_or_none there ∙ sym c.deref-operation-items.ensures.value in
-    let i = c.loop-position.position in
-    let o = c.operation-item.result in
     record {
       lines = c.in_ok-add_position.ensures;
-      own = λ k.
-          c.in_ok-note.ensures k ∙ ap (λ xs. xs ++ appended k (o ∷ [])) (c.loop-position.invariant.own k)
-          ∙ subst (λ os. appended k (take i os) ++ appended k (o ∷ []) ≡ appended k (take (i + 1) os)) (sym are)
-          (appended_more k i c.deref-operation-items.result.now o (search rules) c.operation-item.is);
+      own = λ k. own_next c.args.history.now c.args.number k c.loop-position.position c.in-Some.transaction.now
+          c.deref-operation-items.result.now c.operation-item.result _ _ there c.deref-operation-items.ensures.value (search rules)
+          c.operation-item.is (c.loop-position.invariant.own k) (c.in_ok-note.ensures k);
     }

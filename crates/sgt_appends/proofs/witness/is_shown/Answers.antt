@@ -1,7 +1,7 @@
 use Rattle.std.proofs.Common.{rules, ◌≡◌, sym, subst}
 use Rattle.sgt_appends.specs.declared.witness.Reason.TheVariants.{Seen, InOrder}
 use Rattle.sgt_appends.specs.Witnesses.{IsShown}
-use Rattle.sgt_appends.proofs.shown.is_shown.Goals as goal
+use Rattle.sgt_appends.proofs.witness.is_shown.Goals as goal
 
 pub returns-in-Seen : goal.returns-in-Seen
 returns-in-Seen c = λ yes.

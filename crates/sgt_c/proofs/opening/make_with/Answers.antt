@@ -1,5 +1,5 @@
 use Rattle.std.proofs.Common.{refl}
-use Rattle.sgt_c.proofs.opening_with.make.Goals as goal
+use Rattle.sgt_c.proofs.opening.make_with.Goals as goal
 
 pub returns-clause-opened : goal.returns-clause-opened
 returns-clause-opened c =

@@ -1,6 +1,6 @@
 use Rattle.sgt_model.specs.Databases.{contents_of}
 use Rattle.sgt_c.proofs.RowSteps.{none, rows_next}
-use Rattle.sgt_c.proofs.opening_with.with_rows.Goals as goal
+use Rattle.sgt_c.proofs.opening.with_rows.Goals as goal
 
 pub loop-row-preserved : goal.loop-row-preserved
 loop-row-preserved c =
