@@ -70,8 +70,9 @@ impl Known {
         }
     }
 
-    // The same, if the masks have none of the others and the access is of another transaction.
-    #[inline(never)]
+    // The same, if the masks have none of the others and the access is of another transaction. While one transaction is live, there
+    // are no others.
+    #[inline(always)]
     fn add_of_another(&mut self, access: Access, others: &[Access])
         ensures { (list : List ListedAccess) → Covers self.old.masks [] → StandsFor list others.now
             → Knows self.new.only self.new.masks (list ++ access ∷ []) }
@@ -80,6 +81,15 @@ impl Known {
             self.only = Some(access.by);
             return;
         }
+        self.add_with_others(access, others)
+    }
+
+    // The same, with masks of all accesses.
+    #[inline(never)]
+    fn add_with_others(&mut self, access: Access, others: &[Access])
+        ensures { (list : List ListedAccess) → Covers self.old.masks [] → StandsFor list others.now
+            → Knows self.new.only self.new.masks (list ++ access ∷ []) }
+    {
         add_all(&mut self.masks, others);
         self.masks.add(access);
         self.only = None;

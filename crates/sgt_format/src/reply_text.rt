@@ -1,6 +1,6 @@
 //! The line of a reply.
 ghost use Rattle.std.specs.Prelude.{◌≡◌, ◌++◌, take, Some, None, IfOk, OnOk, OnErr, vec_len, codes};
-ghost use Rattle.std.specs.Fmt.{signed_decimal};
+ghost use Rattle.std.specs.Fmt.{decimal, signed_decimal};
 ghost use Rattle.sgt_model.specs.ShortReplies.{full_cause, full_fate, reply_with};
 ghost use Rattle.sgt_format.specs.ReplyText.{cause_text, over_text, looked_text, wrote_text, committed_text, fell_text, aborted_text, refused_text, reply_text, text};
 
@@ -10,7 +10,7 @@ use crate::decimal_text::{
     write_words,
 };
 use sgt_model::{
-    Answers, Key, NoMemory, Reply, ReplyLists, ShortCause, ShortFate, ShortReply, Tids,
+    Answers, Key, NoMemory, Reply, ReplyLists, ShortCause, ShortFate, ShortReply, Tid, Tids,
 };
 use std::alloc::{AllocError, Global};
 
@@ -63,7 +63,7 @@ fn append_line(
     ensures err { OnErr result (take (vec_len lines.old) lines.new.items ≡ lines.old.items) }
 {
     match reply {
-        ShortReply::Started(t) => append_number_line(lines, b"started ", u64::from(t.0)),
+        ShortReply::Started(t) => append_started(lines, *t),
         ShortReply::NoProcedure => append_words(lines, b"no procedure\n"),
         ShortReply::BadArgs => append_words(lines, b"bad args\n"),
         ShortReply::Spent => append_words(lines, b"spent\n"),
@@ -72,13 +72,34 @@ fn append_line(
         ShortReply::Over(fate) => append_over(lines, *fate, &lists.cycle),
         ShortReply::Looked { key, value } => append_looked(lines, *key, *value),
         ShortReply::Wrote { key, value } => append_wrote(lines, *key, *value),
-        ShortReply::Ended => append_words(lines, b"ended\n"),
+        ShortReply::Ended => append_ended(lines),
         ShortReply::NotEnded => append_words(lines, b"not ended\n"),
         ShortReply::Waits(first) => append_number_line(lines, b"waits ", u64::from(first.0)),
         ShortReply::Committed => append_committed(lines, &lists.answers),
         ShortReply::Aborted(cause) => append_aborted(lines, *cause, &lists.cycle, &lists.fell),
         ShortReply::Refused(code) => append_refused(lines, *code, &lists.fell),
     }
+}
+
+/// Appends the line of a start. It is a function of its own, as are those of other frequent replies: the copying is then
+/// compiled into it.
+#[inline(never)]
+fn append_started(lines: &mut Vec<u8>, t: Tid) -> Result<(), AllocError>
+    ensures ok { OnOk result (lines.new.items ≡ lines.old.items ++ codes "started " ++ decimal t ++ codes "\n") }
+    ensures err { OnErr result (lines.new.items ≡ lines.old.items) }
+{
+    append_number_line(lines, b"started ", u64::from(t.0))
+}
+
+/// Appends the line of a procedure at its end, from a line that is written already.
+#[inline(never)]
+fn append_ended(lines: &mut Vec<u8>) -> Result<(), AllocError>
+    ensures ok { OnOk result (lines.new.items ≡ lines.old.items ++ codes "ended\n") }
+    ensures err { OnErr result (lines.new.items ≡ lines.old.items) }
+{
+    let line =
+        b"                                                          ended\n                                ";
+    append_written(lines, line, LONGEST_LINE - 6)
 }
 
 /// Appends words.

@@ -8,41 +8,8 @@ use Rattle.sgt_model.specs.Runs.{Run, looks, puts, ends, raises}
 use Rattle.sgt_model.specs.Meaning.{run_with}
 use Rattle.sgt_model.specs.Traces.{Used, Next, Looks, Puts, Ends, Raises, trace, next_at}
 use Rattle.sgt_model.specs.Left.{Left, left, next_left, after_look, after_store}
+use Rattle.sgt_model.proofs.Uses.{used_look-suc, used_store-suc}
 use Rattle.sgt_model.proofs.LeftRuns.{next_is_of_left, left_after_look, left_after_store}
-
--- one more access
-
-used_look : (r : Run) (vs : List (Option ℤ)) (made : ℕ) (k : Key) (found : Option ℤ) → Used r vs made
-    → next_at (trace r vs) made ≡ Looks k → Used r (vs ++ found ∷ []) (suc made)
-used_look (looks k go) [] zero q found used next = tt
-used_look (looks k go) (v ∷ vs) zero q found used next = absurd used
-used_look (looks k go) [] (suc made) q found used next = absurd used
-used_look (looks k go) (v ∷ vs) (suc made) q found used next = used_look (go v) vs made q found used next
-used_look (puts k w rest) [] zero q found used next = cc
-used_look (puts k w rest) (v ∷ vs) zero q found used next = absurd used
-used_look (puts k w rest) vs (suc made) q found used next = used_look rest vs made q found used next
-used_look (ends answers) [] zero q found used next = cc
-used_look (ends answers) (v ∷ vs) zero q found used next = absurd used
-used_look (ends answers) vs (suc made) q found used next = absurd used
-used_look (raises code) [] zero q found used next = cc
-used_look (raises code) (v ∷ vs) zero q found used next = absurd used
-used_look (raises code) vs (suc made) q found used next = absurd used
-
-used_store : (r : Run) (vs : List (Option ℤ)) (made : ℕ) (k : Key) (x : Option ℤ) → Used r vs made
-    → next_at (trace r vs) made ≡ Puts k x → Used r vs (suc made)
-used_store (looks k go) [] zero q x used next = cc
-used_store (looks k go) (v ∷ vs) zero q x used next = absurd used
-used_store (looks k go) [] (suc made) q x used next = absurd used
-used_store (looks k go) (v ∷ vs) (suc made) q x used next = used_store (go v) vs made q x used next
-used_store (puts k w rest) [] zero q x used next = tt
-used_store (puts k w rest) (v ∷ vs) zero q x used next = absurd used
-used_store (puts k w rest) vs (suc made) q x used next = used_store rest vs made q x used next
-used_store (ends answers) [] zero q x used next = cc
-used_store (ends answers) (v ∷ vs) zero q x used next = absurd used
-used_store (ends answers) vs (suc made) q x used next = absurd used
-used_store (raises code) [] zero q x used next = cc
-used_store (raises code) (v ∷ vs) zero q x used next = absurd used
-used_store (raises code) vs (suc made) q x used next = absurd used
 
 -- if more values follow, what comes next is the same
 
@@ -113,7 +80,7 @@ module _ (p : ProcedureText) (args : List ℤ) (read : List (Option ℤ)) (used 
   look_passed k other reported within = record {
     few = omega (arith, within);
     done = subst (λ vs. Used (run_with p args) vs (made + 1)) (sym more) (subst (Used (run_with p args) (take used read ++ found ∷ [])) one
-        (used_look (run_with p args) (take used read) made k found passed.done (trace_next (Looks k) reported)));
+        (used_look-suc (run_with p args) (take used read) made k found passed.done (trace_next (Looks k) reported)));
     same = ap (λ (v : ProcedureText × Left). (v.0, after_look found v.1)) passed.same
         ∙ ap (λ l. (p, l)) (sym (left_after_look p args (take used read) made passed.done k found (left_next (Looks k) reported))
         ∙ ap (λ vs. left p args vs (made + 1)) (sym more));
@@ -129,7 +96,7 @@ module _ (p : ProcedureText) (args : List ℤ) (read : List (Option ℤ)) (used 
   store_passed k x reported = record {
     few = passed.few;
     done = subst (Used (run_with p args) (take used read)) one
-        (used_store (run_with p args) (take used read) made k x passed.done (trace_next (Puts k x) reported));
+        (used_store-suc (run_with p args) (take used read) made k x passed.done (trace_next (Puts k x) reported));
     same = ap (λ (v : ProcedureText × Left). (v.0, after_store v.1)) passed.same
         ∙ ap (λ l. (p, l)) (sym (left_after_store p args (take used read) made passed.done k x (left_next (Puts k x) reported)));
   }

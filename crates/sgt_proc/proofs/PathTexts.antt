@@ -10,6 +10,7 @@ use Rattle.sgt_proc.specs.declared.place.Turn.{Turn}
 use Rattle.sgt_proc.specs.Flaws.{size, depth}
 use Rattle.sgt_proc.specs.Paths.{following, IsIf, branch, IsPath, inner, outer}
 use Rattle.sgt_proc.proofs.StatementTexts.{block_drop}
+use Rattle.sgt_proc.proofs.StatementLists.{parts_before}
 use Rattle.sgt_proc.proofs.Followed.{followed_empty, followed_twice}
 
 -- a list of statements
@@ -30,24 +31,10 @@ following_list (suc n) [] = refl
 following_list (suc n) (s ∷ list) = following_before n s (block_of list) ∙ following_list n list
 
 before_size : (s : Statement) (b : Block) → size b + 1 ≤ size (in_front s b)
-before_size (Look to table id absent) b = omega arith
-before_size (Find to table id absent) b = omega arith
-before_size (Put table id value) b = omega arith
-before_size (Remove table id) b = omega arith
-before_size (Let to value) b = omega arith
-before_size (Ask code) b = omega arith
-before_size (If' cond p ys q ns) b = omega arith
-before_size (Answer value) b = omega arith
+before_size s b = let it = parts_before s b in omega (arith, it.0, it.3)
 
 pub before_depth : (s : Statement) (b : Block) → 1 ≤ depth (in_front s b)
-before_depth (Look to table id absent) b = omega arith
-before_depth (Find to table id absent) b = omega arith
-before_depth (Put table id value) b = omega arith
-before_depth (Remove table id) b = omega arith
-before_depth (Let to value) b = omega arith
-before_depth (Ask code) b = omega arith
-before_depth (If' cond p ys q ns) b = omega arith
-before_depth (Answer value) b = omega arith
+before_depth s b = (parts_before s b).4
 
 pub list_size : (list : List Statement) → length list ≤ size (block_of list)
 list_size [] = omega arith
@@ -62,19 +49,22 @@ following_at list n s h e = following_list n list ∙ (block_drop list n s h e �
 pub following_end : (list : List Statement) (n : ℕ) → length list ≤ n → following n (block_of list) ≡ empty
 following_end list n h = following_list n list ∙ ap block_of (drop_all n list h)
 
--- sizes
+-- sizes and depths
 
-following_size : (n : ℕ) (b : Block) → size (following n b) ≤ size b
-following_size zero b = omega arith
-following_size (suc n) empty = omega arith
-following_size (suc n) (look to table id absent b) = omega (arith, following_size n b)
-following_size (suc n) (find to table id absent b) = omega (arith, following_size n b)
-following_size (suc n) (put table id value b) = omega (arith, following_size n b)
-following_size (suc n) (remove table id b) = omega (arith, following_size n b)
-following_size (suc n) (save to value b) = omega (arith, following_size n b)
-following_size (suc n) (ask code b) = omega (arith, following_size n b)
-following_size (suc n) (choose test ys ns b) = omega (arith, following_size n b)
-following_size (suc n) (answer value b) = omega (arith, following_size n b)
+following_parts : (n : ℕ) (b : Block) → (size (following n b) ≤ size b) × (depth (following n b) ≤ depth b)
+following_parts zero b = (omega arith, omega arith)
+following_parts (suc n) empty = (omega arith, omega arith)
+following_parts (suc n) (look to table id absent b) = let it = following_parts n b in (omega (arith, it.0), omega (arith, it.1))
+following_parts (suc n) (find to table id absent b) = let it = following_parts n b in (omega (arith, it.0), omega (arith, it.1))
+following_parts (suc n) (put table id value b) = let it = following_parts n b in (omega (arith, it.0), omega (arith, it.1))
+following_parts (suc n) (remove table id b) = let it = following_parts n b in (omega (arith, it.0), omega (arith, it.1))
+following_parts (suc n) (save to value b) = let it = following_parts n b in (omega (arith, it.0), omega (arith, it.1))
+following_parts (suc n) (ask code b) = let it = following_parts n b in (omega (arith, it.0), omega (arith, it.1))
+following_parts (suc n) (choose test ys ns b) = let it = following_parts n b in (omega (arith, it.0), omega (arith, it.1))
+following_parts (suc n) (answer value b) = let it = following_parts n b in (omega (arith, it.0), omega (arith, it.1))
+
+pub following_depth : (n : ℕ) (b : Block) → depth (following n b) ≤ depth b
+following_depth n b = (following_parts n b).1
 
 branch_size : (held : Bool) (b : Block) → size (branch held b) ≤ size b
 branch_size held empty = omega arith
@@ -91,21 +81,7 @@ branch_size held (answer value b) = omega arith
 pub inner_size : (path : List Turn) (b : Block) → size (inner path b) ≤ size b
 inner_size [] b = omega arith
 inner_size (t ∷ path) b =
-    omega (arith, inner_size path (branch t.held (following t.at b)), branch_size t.held (following t.at b), following_size t.at b)
-
--- depths
-
-pub following_depth : (n : ℕ) (b : Block) → depth (following n b) ≤ depth b
-following_depth zero b = omega arith
-following_depth (suc n) empty = omega arith
-following_depth (suc n) (look to table id absent b) = omega (arith, following_depth n b)
-following_depth (suc n) (find to table id absent b) = omega (arith, following_depth n b)
-following_depth (suc n) (put table id value b) = omega (arith, following_depth n b)
-following_depth (suc n) (remove table id b) = omega (arith, following_depth n b)
-following_depth (suc n) (save to value b) = omega (arith, following_depth n b)
-following_depth (suc n) (ask code b) = omega (arith, following_depth n b)
-following_depth (suc n) (choose test ys ns b) = omega (arith, following_depth n b)
-following_depth (suc n) (answer value b) = omega (arith, following_depth n b)
+    omega (arith, inner_size path (branch t.held (following t.at b)), branch_size t.held (following t.at b), (following_parts t.at b).0)
 
 branch_depth : (held : Bool) (b : Block) → IsIf b → depth (branch held b) + 1 ≤ depth b
 branch_depth held empty h = absurd h

@@ -1,5 +1,5 @@
 //! A position in a procedure, with the registers and answers there.
-ghost use Rattle.std.specs.Prelude.{◌≡◌, ◌≤◌, ◌<◌, [], Ok, cond, IsTrue};
+ghost use Rattle.std.specs.Prelude.{◌≡◌, ◌≤◌, ◌<◌, [], Ok, Some, None, IfSome, cond, IsTrue};
 ghost use Rattle.arrayvec.specs.ArrayVec.{array_vec_len};
 ghost use Rattle.sgt_model.specs.Syntax.{Block, empty};
 ghost use Rattle.sgt_model.specs.ProcedureTexts.{expr_text, in_front, block_of};
@@ -12,7 +12,7 @@ ghost use Rattle.sgt_proc.specs.Paths.{following, branch, inner};
 ghost use Rattle.sgt_proc.specs.Places.{with_found_in, IsIn, Steps, Stops, StopsAtValue};
 
 use crate::answers::MOST_ANSWERS;
-use crate::value::{WRONG, key, numbers, test, value};
+use crate::value::{WRONG, key, numbers, term, test, test_of_terms, value, value_of_terms};
 use arrayvec::ArrayVec;
 use sgt_model::{Answers, Args, Expr, Key, Statement, is_value};
 
@@ -126,9 +126,24 @@ impl Place {
         }
     }
 
-    // Executes the statement there, unless it is an access: then it stops.
+    // Executes the statement there, unless it is an access: then it stops. Most statements have terms alone, which need no call.
     #[inline(always)]
     fn step(&mut self, statement: &Statement, stop: &mut Stop) -> Went
+        requires capacity { array_vec_len self.old.path < 16 }
+        requires few { self.old.at < 64 }
+        ensures steps { (b : Block) → Steps b statement.now self.old result stop.new self.new }
+        ensures in_range { result ≡ Stopped → StopsAtValue stop.new }
+        ensures same_list { result ≡ On → self.new.path ≡ self.old.path }
+    {
+        match self.step_by_terms(statement, stop) {
+            Some(went) => went,
+            None => self.step_by_parts(statement, stop),
+        }
+    }
+
+    // The same, whatever the statement evaluates.
+    #[inline(never)]
+    fn step_by_parts(&mut self, statement: &Statement, stop: &mut Stop) -> Went
         requires capacity { array_vec_len self.old.path < 16 }
         requires few { self.old.at < 64 }
         ensures steps { (b : Block) → Steps b statement.now self.old result stop.new self.new }
@@ -214,6 +229,82 @@ impl Place {
         }
     }
 
+    // The same, if all that the statement evaluates are terms. Else it does nothing.
+    #[inline(always)]
+    fn step_by_terms(&mut self, statement: &Statement, stop: &mut Stop) -> Option<Went>
+        requires capacity { array_vec_len self.old.path < 16 }
+        requires few { self.old.at < 64 }
+        ensures steps { IfSome result (λ went. (b : Block) → Steps b statement.now self.old went stop.new self.new) }
+        ensures in_range { result ≡ Some Stopped → StopsAtValue stop.new }
+        ensures same_list { result ≡ Some On → self.new.path ≡ self.old.path }
+        ensures nothing { result ≡ None → self.new ≡ self.old }
+    {
+        match statement {
+            Statement::Look {
+                reg,
+                table,
+                id,
+                absent,
+            } => {
+                let key = Key::new(*table, self.term(id)?)?;
+                Some(stop.stand(Stop::Look {
+                    key,
+                    reg: *reg,
+                    absent: *absent,
+                }))
+            }
+            Statement::Find {
+                reg,
+                table,
+                id,
+                absent,
+            } => {
+                let key = Key::new(*table, self.term(id)?)?;
+                let absent = self.term(absent)?;
+                Some(stop.stand(Stop::Find {
+                    key,
+                    reg: *reg,
+                    absent,
+                }))
+            }
+            Statement::Put { table, id, value } => {
+                let key = Key::new(*table, self.term(id)?)?;
+                let stored = self.term(value)?;
+                if !is_value(stored) {
+                    return None;
+                }
+                Some(stop.stand(Stop::Put(key, Some(stored))))
+            }
+            Statement::Let { reg, value } => {
+                let given = value_of_terms(value, self.args.as_slice(), &self.registers)?;
+                self.set(*reg, given);
+                self.at += 1;
+                Some(Went::On)
+            }
+            Statement::If { cond, yes, no } => {
+                let held = test_of_terms(cond, self.args.as_slice(), &self.registers)?;
+                if is_branch_empty(held, yes, no) {
+                    self.at += 1;
+                    return Some(Went::On);
+                }
+                let turn = Turn { at: self.at, held };
+                self.path.push(turn);
+                self.at = 0;
+                Some(Went::Inside)
+            }
+            Statement::Answer { value } => {
+                let given = value_of_terms(value, self.args.as_slice(), &self.registers)?;
+                if self.answers.len() >= usize::from(MOST_ANSWERS) {
+                    return None;
+                }
+                self.answers.push(given);
+                self.at += 1;
+                Some(Went::On)
+            }
+            Statement::Remove { .. } | Statement::Ask { .. } => None,
+        }
+    }
+
     /// Sets a register. If there is no such register, it does nothing.
     pub fn set(&mut self, register: u8, value: i64)
         ensures { self.new ≡ with_found_in self.old register value }
@@ -244,6 +335,14 @@ impl Place {
         let (id, other) = numbers(id, other, self.args.as_slice(), &self.registers)?;
         let key = key(table, id)?;
         Ok((key, other))
+    }
+
+    // The value of a term there, if it has one.
+    #[inline(always)]
+    fn term(&self, expr: &Expr) -> Option<i64>
+        ensures { IfSome result (λ n. number_or_code (value_of (expr_text expr.now) self.now.args self.now.registers) ≡ Ok n) }
+    {
+        term(expr, self.args.as_slice(), &self.registers)
     }
 
     // The value of an expression there, or the code raised in its place.

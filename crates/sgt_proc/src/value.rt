@@ -1,5 +1,5 @@
 //! The values of expressions and conditions.
-ghost use Rattle.std.specs.Prelude.{◌≡◌, ◌+ℤ◌, ◌-ℤ◌, ◌*ℤ◌, None, Ok, slice_get, slice_index_or};
+ghost use Rattle.std.specs.Prelude.{◌≡◌, ◌+ℤ◌, ◌-ℤ◌, ◌*ℤ◌, None, Ok, IfSome, slice_get, slice_index_or};
 ghost use Rattle.sgt_model.specs.ProcedureTexts.{expr_text, cond_text};
 ghost use Rattle.sgt_model.specs.Meaning.{got, bounded, divided, found_or, value_of, truth_of};
 ghost use Rattle.sgt_model.specs.Executions.{in_turn, key_of};
@@ -90,6 +90,56 @@ fn register(registers: &[Option<i64>; 16], n: u8) -> Result<i64, u16>
         Some(Some(number)) => Ok(*number),
         _ => Err(WRONG),
     }
+}
+
+/// The value of a literal, an argument or a register. None if it is no value, and for arithmetic.
+#[inline(always)]
+pub fn term(expr: &Expr, args: &[i64], registers: &[Option<i64>; 16]) -> Option<i64>
+    ensures { IfSome result (λ n. number_or_code (value_of (expr_text expr.now) args.now registers.now) ≡ Ok n) }
+{
+    if let Expr::Reg(n) = expr {
+        return register(registers, *n).ok();
+    }
+    if let Expr::Arg(n) = expr {
+        return argument(args, *n).ok();
+    }
+    if let Expr::Num(number) = expr {
+        return Some(*number);
+    }
+    None
+}
+
+/// The same, also for a sum or difference of two of these. It calls no function, and most expressions are one of these.
+#[inline(always)]
+pub fn value_of_terms(expr: &Expr, args: &[i64], registers: &[Option<i64>; 16]) -> Option<i64>
+    ensures { IfSome result (λ n. number_or_code (value_of (expr_text expr.now) args.now registers.now) ≡ Ok n) }
+{
+    match expr {
+        Expr::Sum(left, right) => {
+            sum(term(left, args, registers)?, term(right, args, registers)?).ok()
+        }
+        Expr::Diff(left, right) => {
+            difference(term(left, args, registers)?, term(right, args, registers)?).ok()
+        }
+        Expr::Num(_) | Expr::Arg(_) | Expr::Reg(_) | Expr::Product(..) | Expr::Quotient(..) => {
+            term(expr, args, registers)
+        }
+    }
+}
+
+/// Whether a condition on two terms holds. None for any other condition.
+#[inline(always)]
+pub fn test_of_terms(cond: &Cond, args: &[i64], registers: &[Option<i64>; 16]) -> Option<bool>
+    ensures { IfSome result (λ held. choice_or_code (truth_of (cond_text cond.now) args.now registers.now) ≡ Ok held) }
+{
+    let (Cond::Less(left, right) | Cond::AtMost(left, right) | Cond::Equal(left, right)) = cond;
+    let left = term(left, args, registers)?;
+    let right = term(right, args, registers)?;
+    Some(match cond {
+        Cond::Less(..) => left < right,
+        Cond::AtMost(..) => left <= right,
+        Cond::Equal(..) => left == right,
+    })
 }
 
 /// Whether a condition holds, or the code raised in its place.

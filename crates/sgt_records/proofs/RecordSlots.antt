@@ -255,6 +255,27 @@ module _ (m n : Key → Option Record) (key : Key) (r : Record) (returned : (k :
         valued k true = value
         valued k false = index.in_range k
 
+-- the same where the record that was there is known
+module _ (m n : Key → Option Record) (key : Key) (r : Record) (returned : (k : Key) → n k ≡ cond (key_eq key k) (Some r) (m k))
+    (a b : Slab Chain) (index : IsIndex m a) (old : Record) (is : m key ≡ Some old)
+    (moves : Moves a b (slot_in old.written) (slot_in r.written)) where
+  was : written_by (m key) ≡ old.written
+  was = written_is m a key old is index
+
+  pub chain_put : (f : List (ℕ × Option ℤ) → List (ℕ × Option ℤ)) → chain_at b r.written ≡ f (chain_at a old.written) → (k : Key)
+      → key_chain n b k ≡ cond (key_eq key k) (f (key_chain m a k)) (key_chain m a k)
+  chain_put = chain_by m n key r returned a b index old.written was moves
+
+  pub committed_put : (t : ℕ) → r.committed ≡ unwrap_or (value_in t (chain_at a old.written)) old.committed → (k : Key)
+      → committed_of n k ≡ cond (key_eq key k) (unwrap_or (value_in t (key_chain m a k)) (committed_of m k)) (committed_of m k)
+  committed_put t = committed_by m n key r returned a b index old.written was moves t old.committed (committed_is m a key old is index)
+
+  pub index_put : (IsChain (chain_at a old.written) → IsChain (chain_at b r.written))
+      → (IsChain (chain_at a old.written) → IfSome old.committed IsValue → IfSome r.committed IsValue) → IsIndex n b
+  index_put chained valued =
+      let chain = chain_there m a key old is index in
+      index_returned m n key r returned a b index old.written was moves (chained chain) (valued chain (value_there m a key old is index))
+
 -- an empty record for a key that has none
 module _ (m n : Key → Option Record) (a b : Slab Chain) (key : Key) (r : Record) (absent : m key ≡ None) (here : r.written ≡ Nothing)
     (none : r.committed ≡ None) (same : (p : ℕ) → slab.get b p ≡ slab.get a p) (index : IsIndex m a)

@@ -1,42 +1,16 @@
 -- What a value written to a key's record, or an empty record, changes.
-use Rattle.std.proofs.Common.{◌≡◌, ℤ, Bool, true, false, cond, Equal, Option, Some, None, Result, Ok, Err, OnOk, OnErr, IfSome, refl, sym, ap, ◌∙◌, subst}
-use Rattle.std.proofs.lemmas.Bool.{true≢false}
-use Rattle.std.proofs.lemmas.Cmp.{tied_itself}
+use Rattle.std.proofs.Common.{◌≡◌, ℤ, Bool, true, false, cond, Option, Some, None, Result, Ok, Err, OnOk, OnErr, IfSome, refl, sym, ap, ◌∙◌, subst}
 use Rattle.std.specs.Option.{is_some, option_flatten}
 use Rattle.std.specs.Ordering.{is_eq}
-use Rattle.std.specs.Cmp.{Equal-is}
 use Rattle.std.specs.BTreeMap.{BTreeMap, get, is_at, Updates, IsUnchanged}
 use Rattle.std.specs.Map.{lookup}
 use Rattle.sgt_model.specs.Numbers.{IsValue}
 use Rattle.sgt_model.specs.Contents.{Key, key_eq, set_in}
 use Rattle.sgt_model.specs.Databases.{key_cmp}
 use Rattle.sgt_model.specs.StoredValues.{HoldValues}
-use Rattle.sgt_model.proofs.Rows.{key_order, key_cmp-equal}
-use Rattle.sgt_model.proofs.Stores.{key_eq-true, key_eq-refl}
+use Rattle.sgt_model.proofs.Stores.{key_eq-true}
+pub use Rattle.sgt_model.proofs.FoundKeys.{same_key, key_back}
 use Rattle.sgt_records.specs.Settleds.{settled_in, has_record}
-
--- the order of keys finds a key where it is the same
-pub same_key : (a b : Key) → is_eq (key_cmp a b) ≡ key_eq a b
-same_key a b = go (is_eq (key_cmp a b)) refl (key_eq a b) refl
-  where
-    go : (s : Bool) → is_eq (key_cmp a b) ≡ s → (t : Bool) → key_eq a b ≡ t → s ≡ t
-    go true h true i = refl
-    go false h false i = refl
-    go true h false i =
-        absurd (true≢false (sym (subst (λ c. key_eq a c ≡ true) (key_cmp-equal a b ((Equal-is (key_cmp a b)).0 h)) (key_eq-refl a)) ∙ i))
-    go false h true i =
-        absurd (true≢false (sym ((Equal-is (key_cmp a b)).1
-        (subst (λ c. key_cmp a c ≡ Equal) (key_eq-true a b i) (tied_itself key_order a))) ∙ h))
-
--- the same for the other key
-pub key_back : (a b : Key) → is_eq (key_cmp a b) ≡ key_eq b a
-key_back a b = same_key a b ∙ go (key_eq a b) refl (key_eq b a) refl
-  where
-    go : (s : Bool) → key_eq a b ≡ s → (t : Bool) → key_eq b a ≡ t → s ≡ t
-    go true h true i = refl
-    go false h false i = refl
-    go true h false i = absurd (true≢false (sym (subst (λ c. key_eq c a ≡ true) (key_eq-true a b h) (key_eq-refl a)) ∙ i))
-    go false h true i = absurd (true≢false (sym (subst (λ c. key_eq c b ≡ true) (key_eq-true b a i) (key_eq-refl b)) ∙ h))
 
 module _ (m n : BTreeMap Key (Option ℤ)) (key : Key) (content : Option ℤ) (returned : Updates key_cmp m n key (Some content)) where
   -- what the key's record holds is the key's value, and every other value is as before

@@ -87,10 +87,11 @@ impl Hints {
     }
 }
 
-// The index of a key's pair among this number of pairs.
+// The index of a key's pair among this number of pairs. Keys of one number in several tables have neighbouring pairs: a
+// transaction that writes them all then waits for few lines of memory.
 #[inline(always)]
 fn spot_of(key: Key, count: usize) -> usize {
-    let number = (key.id() - LEAST) as u64 * 8 + u64::from(key.table());
+    let number = (key.id() - LEAST) as u64;
     let mixed = (number ^ (number >> 32)).wrapping_mul(0xD6E8_FEB8_6659_FD93) >> 32;
-    mixed as usize & count.wrapping_sub(1)
+    (mixed as usize ^ key.table() as usize) & count.wrapping_sub(1)
 }

@@ -1,9 +1,7 @@
 use Rattle.std.proofs.Common.{rules, ◌≡◌, Some, ◌++◌, ◌∷◌, [], length, sym, ap, subst}
 use Rattle.sgt_model.specs.AccessList.{ListedAccess}
 use Rattle.sgt_access.specs.Masks.{Knows}
-use Rattle.sgt_access.proofs.Counts.{stands_back}
 use Rattle.sgt_access.proofs.Held.{first_noted}
-use Rattle.sgt_access.proofs.Reordered.{covers_same}
 use Rattle.sgt_access.proofs.known.Known.add_of_another.Goals as goal
 
 pub returns-then-is_empty : goal.returns-then-is_empty
@@ -11,7 +9,3 @@ returns-then-is_empty c list start stands =
     let none : length c.args.others.now ≡ 0 = search rules in
     subst (λ t. Knows (Some t) c.args.self.now.masks (list ++ c.args.access ∷ [])) (sym (ap (λ (a : ListedAccess). a.by) c.access.view_is))
     (first_noted c.args.self.now.masks list c.args.others.now c.args.access none stands start)
-
-pub returns : goal.returns
-returns c list start stands =
-    c.add.ensures list (covers_same c.add_all.new.masks c.args.others.now list (stands_back list c.args.others.now stands) (c.add_all.ensures start))

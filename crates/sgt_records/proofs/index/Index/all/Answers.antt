@@ -14,6 +14,7 @@ use Rattle.sgt_records.specs.declared.table.Table.{Table}
 use Rattle.sgt_records.specs.Tables.{record_in}
 use Rattle.sgt_records.proofs.EntriesRead.{given_so_far, value_more, empty_more, all_given}
 use Rattle.sgt_records.proofs.RecordSlots.{value_there}
+use Rattle.sgt_records.proofs.index.Index.all.Goals.{In-Some}
 use Rattle.sgt_records.proofs.index.Index.all.Goals as goal
 
 abbrev value : Table → ℕ → Option ℤ
@@ -25,12 +26,16 @@ value_is : (table : Table) (r : Record) (p : ℕ) (o : Option ℕ) → o ≡ Som
 value_is table r p o at is =
     ap (option_and_then (λ (r : Record). r.committed)) (sym (ap (option_and_then (slice_get table.records.items)) at) ∙ is)
 
-pub at-requires : goal.at-requires
-at-requires c =
+-- the key has the index that was read with it
+found : (c : In-Some) → get key_cmp c.args.self.now.table.indices c.in-Some.key.now ≡ Some c.in-Some.index.now
+found c =
     let start = c.into_iter-key-iterator.ensures.into_iter_gives in
     (btree_map_turn deref_pair c.loop-key.yielded c.into_iter-key-iterator.result c.loop-key.key-iterator c.next.new.self c.next.result
     (c.in-Some.key, c.in-Some.index) c.loop-key.yielded_by c.in-Some.is c.next.ensures.steps key_order c.args.self.now.table.indices
     start.0 start.5).1
+
+pub at-requires : goal.at-requires
+at-requires c = found (goal.at.at-requires c).In-Some
 
 pub put-requires : goal.put-requires
 put-requires c = subst IsValue (sym (to_z-of_z w64 c.in-Some-committed.value (search rules)))
@@ -44,18 +49,15 @@ loop-key-preserved-in-Continue-1 c =
     let indices = table.indices in
     let key = c.in-Some.key.now in
     let index = c.in-Some.index.now in
-    let start = c.into_iter-key-iterator.ensures.into_iter_gives in
-    let found : get key_cmp indices key ≡ Some index =
-    (btree_map_turn deref_pair c.loop-key.yielded c.into_iter-key-iterator.result c.loop-key.key-iterator c.next.new.self c.next.result
-    (c.in-Some.key, c.in-Some.index) c.loop-key.yielded_by c.in-Some.is c.next.ensures.steps key_order indices start.0 start.5).1 in
+    let there = found (goal.at.loop-key-preserved-in-Continue-1 c).In-Some in
     record {
       by_key = c.in_ok-put.ensures.by_key;
       values = λ k. c.in_ok-put.ensures.put k
           ∙ (ap (λ v. cond (key_eq key k) (Some v) (contents_of c.loop-key.values k))
           (to_z-of_z w64 c.in-Some-committed.value (search rules))
           ∙ (ap (λ o. cond (key_eq key k) (Some c.in-Some-committed.value) o) (c.loop-key.invariant.values k)
-          ∙ (sym (value_more (value table) indices (map deref_pair c.loop-key.yielded) key index c.in-Some-committed.value found
-          (value_is table c.at.result.now index (get key_cmp indices key) found c.at.ensures ∙ c.in-Some-committed.is) k)
+          ∙ (sym (value_more (value table) indices (map deref_pair c.loop-key.yielded) key index c.in-Some-committed.value there
+          (value_is table c.at.result.now index (get key_cmp indices key) there c.at.ensures ∙ c.in-Some-committed.is) k)
           ∙ ap (λ l. given_so_far (value table) indices l k) (sym (map-append deref_pair c.loop-key.yielded
           ((c.in-Some.key, c.in-Some.index) ∷ []))))));
     }
@@ -66,15 +68,12 @@ loop-key-preserved c =
     let indices = table.indices in
     let key = c.in-Some.key.now in
     let index = c.in-Some.index.now in
-    let start = c.into_iter-key-iterator.ensures.into_iter_gives in
-    let found : get key_cmp indices key ≡ Some index =
-    (btree_map_turn deref_pair c.loop-key.yielded c.into_iter-key-iterator.result c.loop-key.key-iterator c.next.new.self c.next.result
-    (c.in-Some.key, c.in-Some.index) c.loop-key.yielded_by c.in-Some.is c.next.ensures.steps key_order indices start.0 start.5).1 in
+    let there = found (goal.at.loop-key-preserved c).In-Some in
     record {
       by_key = c.loop-key.invariant.by_key;
       values = λ k. c.loop-key.invariant.values k
-          ∙ (sym (empty_more (value table) indices (map deref_pair c.loop-key.yielded) key index found
-          (value_is table c.at.result.now index (get key_cmp indices key) found c.at.ensures ∙ c.in_default.is) k)
+          ∙ (sym (empty_more (value table) indices (map deref_pair c.loop-key.yielded) key index there
+          (value_is table c.at.result.now index (get key_cmp indices key) there c.at.ensures ∙ c.in_default.is) k)
           ∙ ap (λ l. given_so_far (value table) indices l k) (sym (map-append deref_pair c.loop-key.yielded
           ((c.in-Some.key, c.in-Some.index) ∷ []))));
     }

@@ -13,6 +13,7 @@ use Rattle.sgt_model.specs.Contents.{Key}
 use Rattle.sgt_model.specs.Databases.{Row, key_cmp}
 use Rattle.sgt_records.specs.RowRecords.{record_with}
 use Rattle.sgt_records.proofs.RowIndices.{map_next, places, places_next, row_key, row_record, rows_indices, rows_keys, rows_records}
+use Rattle.sgt_records.proofs.table.Table.of.Goals.{In_ok-from_iter}
 use Rattle.sgt_records.proofs.table.Table.of.Goals as goal
 
 pub loop-index-preserved : goal.loop-index-preserved
@@ -37,23 +38,29 @@ loop-index-preserved c =
       count_of_places = search rules;
     }
 
-pub invariant_of-result : goal.invariant_of-result
-invariant_of-result c =
-    let rows = c.args.rows.now in
-    let whole : take c.loop-index.index rows ≡ rows = take_all c.loop-index.index rows (omega (arith, c.loop-index-test.false)) in
+whole : (c : In_ok-from_iter) → take c.loop-index.index c.args.rows.now ≡ c.args.rows.now
+whole c = take_all c.loop-index.index c.args.rows.now (omega (arith, c.loop-index-test.false))
+
+-- the indices are the places of the rows
+returned : (c : In_ok-from_iter) (k : Key)
+    → get key_cmp c.in_ok-from_iter.field-0 k ≡ update_all (eq_by_cmp key_cmp) (λ (_ : Key). None) (places 0 c.args.rows.now) k
+returned c k =
     let ran = c.in_ok-from_iter.ensures.ran in
     let count : vec_len c.loop-index.places ≡ length c.loop-index.places.items = search rules in
     let drained : ran.1 ≡ c.loop-index.places.items = sym (map-id ran.1) ∙ items_from_drains ran.1 ran.3
     (YieldsList-from_vec c.loop-index.places.items ran.2.0 (ran.2.1 ∙ count)) in
-    let returned : (k : Key) → get key_cmp c.in_ok-from_iter.field-0 k
-    ≡ update_all (eq_by_cmp key_cmp) (λ (_ : Key). None) (places 0 rows) k =
-    λ k. ran.4.0 k ∙ ap (λ l. update_all (eq_by_cmp key_cmp) (λ (_ : Key). None) l k)
-    (drained ∙ c.loop-index.invariant.listed ∙ ap (places 0) whole) in
-    let records : c.loop-index.records.items ≡ map row_record rows = c.loop-index.invariant.records ∙ ap (map row_record) whole in
+    ran.4.0 k ∙ ap (λ l. update_all (eq_by_cmp key_cmp) (λ (_ : Key). None) l k)
+    (drained ∙ c.loop-index.invariant.listed ∙ ap (places 0) (whole c))
+
+pub invariant_of-result : goal.invariant_of-result
+invariant_of-result c =
+    let rows = c.args.rows.now in
+    let at = (goal.at.invariant_of-result c).In_ok-from_iter in
+    let records : c.loop-index.records.items ≡ map row_record rows = c.loop-index.invariant.records ∙ ap (map row_record) (whole at) in
     record {
-      are_indices = rows_indices rows c.requires c.in_ok-from_iter.field-0 returned c.loop-index.records.items records;
-      are_keys = rows_keys rows c.requires c.in_ok-from_iter.field-0 returned c.loop-index.keys.items (length c.loop-index.records.items)
-          (c.loop-index.invariant.keys ∙ ap (map row_key) whole) (ap length records ∙ length_map rows);
+      are_indices = rows_indices rows c.requires c.in_ok-from_iter.field-0 (returned at) c.loop-index.records.items records;
+      are_keys = rows_keys rows c.requires c.in_ok-from_iter.field-0 (returned at) c.loop-index.keys.items (length c.loop-index.records.items)
+          (c.loop-index.invariant.keys ∙ ap (map row_key) (whole at)) (ap length records ∙ length_map rows);
     }
   where
     length_map : (rows : List Row) → length (map row_record rows) ≡ length rows
@@ -63,14 +70,6 @@ invariant_of-result c =
 pub returns : goal.returns
 returns c k =
     let rows = c.args.rows.now in
-    let whole : take c.loop-index.index rows ≡ rows = take_all c.loop-index.index rows (omega (arith, c.loop-index-test.false)) in
-    let ran = c.in_ok-from_iter.ensures.ran in
-    let count : vec_len c.loop-index.places ≡ length c.loop-index.places.items = search rules in
-    let drained : ran.1 ≡ c.loop-index.places.items = sym (map-id ran.1) ∙ items_from_drains ran.1 ran.3
-    (YieldsList-from_vec c.loop-index.places.items ran.2.0 (ran.2.1 ∙ count)) in
-    let returned : (k : Key) → get key_cmp c.in_ok-from_iter.field-0 k
-    ≡ update_all (eq_by_cmp key_cmp) (λ (_ : Key). None) (places 0 rows) k =
-    λ k. ran.4.0 k ∙ ap (λ l. update_all (eq_by_cmp key_cmp) (λ (_ : Key). None) l k)
-    (drained ∙ c.loop-index.invariant.listed ∙ ap (places 0) whole) in
-    rows_records rows c.requires c.in_ok-from_iter.field-0 returned c.loop-index.records.items
-    (c.loop-index.invariant.records ∙ ap (map row_record) whole) k
+    let at = (goal.at.returns c).In_ok-from_iter in
+    rows_records rows c.requires c.in_ok-from_iter.field-0 (returned at) c.loop-index.records.items
+    (c.loop-index.invariant.records ∙ ap (map row_record) (whole at)) k

@@ -2,7 +2,7 @@ use Rattle.std.proofs.Common.{◌≡◌, rules, refl, cond}
 use Rattle.sgt_model.specs.Syntax.{empty}
 use Rattle.sgt_model.specs.ProcedureTexts.{block_of}
 use Rattle.sgt_proc.proofs.Stepped.{test_is, if_step, if_passed}
-use Rattle.sgt_proc.proofs.place.Place.step.Goals as goal
+use Rattle.sgt_proc.proofs.place.Place.step_by_parts.Goals as goal
 
 pub returns-then-is_branch_empty-clause-steps : goal.returns-then-is_branch_empty-clause-steps
 returns-then-is_branch_empty-clause-steps c = λ b inside here.
