@@ -33,7 +33,8 @@ pub fn ensure_capacity<R: Records, A: Accesses, G: Graph>(
 {
     let needed = sched.live_count() + 2;
     if history.spare() < needed {
-        return add_spare(history, sched, event, needed);
+        // Only a copy is passed to the call, so that an event that its caller has just made is never written to memory.
+        return add_spare(history, sched, &event.copied(), needed);
     }
     Ok(())
 }

@@ -243,7 +243,8 @@ impl History {
             (Event::Access(t, request), ShortReply::Wrote { key, value }) => {
                 self.push_access(*t, request, StoredReply::wrote(key, value))
             }
-            _ => self.push_any(event, reply, lists),
+            // Only a copy is passed to the call, so that an event that its caller has just made is never written to memory.
+            _ => self.push_any(&event.copied(), reply, lists),
         }
     }
 

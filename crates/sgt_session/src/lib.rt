@@ -106,6 +106,7 @@
 mod accounts;
 mod close;
 mod end_signal;
+mod hold;
 mod lock_policy;
 mod named;
 mod new;

@@ -36,6 +36,16 @@ impl LockPolicy {
         }
     }
 
+    /// Takes the engine's lock, if it is free, for a call whose receipt has its capacity.
+    #[inline(always)]
+    pub fn try_lock<'l, T>(
+        &self,
+        lock: &'l Mutex<T>,
+        _capacity: &ReceiptCapacity,
+    ) -> Option<MutexGuard<'l, T>> {
+        lock.try_lock()
+    }
+
     /// Takes the engine's lock for a call of this event. A thread that finds it taken tries again some times. Before
     /// each try it yields to others, longer each time. Waking a sleeping thread costs the one that frees the lock more
     /// than a call. Trying too often slows the one that holds it.

@@ -30,6 +30,8 @@ use std::sync::ledger::{Book, Share};
 pub struct Round<N: Named, R: Records, A: Accesses, G: Graph> {
     engine: Box<Engine<R, A, G>>,
     calls: Book<N>,
+    // Where the engine writes each reply. Nothing reads what an earlier call left there.
+    reply: ShortReply,
 }
 
 impl<N: Named, R: Records, A: Accesses, G: Graph> Model for Round<N, R, A, G> {
@@ -55,7 +57,11 @@ impl<N: Named, R: Records, A: Accesses, G: Graph> Round<N, R, A, G> {
         requires calls { calls.total ≡ 0 }
         ensures { result ≡ engine.value }
     {
-        Round { engine, calls }
+        Round {
+            engine,
+            calls,
+            reply: ShortReply::Unknown,
+        }
     }
 
     /// Makes one event of the engine, and appends its receipt. The result says what the entry is to a caller that makes one
@@ -80,8 +86,7 @@ impl<N: Named, R: Records, A: Accesses, G: Graph> Round<N, R, A, G> {
         ensures unchanged { OnErr result ((self.new ≡ self.old) × (mine.new ≡ mine.old) × (receipts.new ≡ receipts.old)) }
         ensures quits { (t : ℕ) → event.now ≡ Quit t → live self.old.past t ≡ true → IsOk result }
     {
-        let mut reply = ShortReply::Unknown;
-        self.engine.answer_inline(event, &mut reply)?;
+        self.engine.answer_inline(event, &mut self.reply)?;
         self.calls.add(mine, 1);
         Ok(receipts.file_newest(self.engine.history()))
     }
@@ -114,7 +119,7 @@ impl<N: Named, R: Records, A: Accesses, G: Graph> Round<N, R, A, G> {
         ensures real_time { KeepsRealTime (configuration_of result.value) result.value.past }
         ensures progress { MakesProgress (configuration_of result.value) result.value.past }
     {
-        let Round { engine, calls: _ } = self;
+        let Round { engine, .. } = self;
         let _ = engine.history();
         engine
     }

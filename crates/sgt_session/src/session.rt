@@ -9,6 +9,7 @@ ghost use Rattle.sgt_session.specs.Own.{with_one, open_by};
 ghost use Rattle.sgt_session.specs.Receipts.{entry_of, IsWaitOf};
 
 use crate::end_signal::WaitCount;
+use crate::hold::step_in_hold;
 use crate::named::Named;
 use crate::own::{ensure_receipt_capacity, note};
 use crate::receipt::Receipt;
@@ -161,10 +162,10 @@ impl<N: Named> Session<N> {
     {
         let spare = ensure_receipt_capacity(&mut self.receipts, &mut self.own, event)?;
         let (turn, mut round) = shared.lock_policy.lock(rt, &shared.round, event, spare);
-        let kind = round.apply(event, &mut self.share, &mut self.receipts)?;
+        round.apply(event, &mut self.share, &mut self.receipts)?;
         drop(round);
         drop(turn);
-        note_newest(&mut self.own, &self.receipts, kind, &shared.waiters);
+        note_and_wake(&mut self.own, &shared.waiters, &self.receipts.last_entry());
         Ok(())
     }
 
@@ -182,12 +183,7 @@ impl<N: Named> Session<N> {
             (λ _. self.new ≡ self.old) }
     {
         let spare = ensure_receipt_capacity(&mut self.receipts, &mut self.own, &Event::Step(t))?;
-        let (turn, mut round) = shared
-            .lock_policy
-            .lock(rt, &shared.round, &Event::Step(t), spare);
-        let kind = round.apply(&Event::Step(t), &mut self.share, &mut self.receipts)?;
-        drop(round);
-        drop(turn);
+        let kind = step_in_hold(rt, shared, t, &mut self.share, &mut self.receipts, spare)?;
         note_newest(&mut self.own, &self.receipts, kind, &shared.waiters);
         Ok(kind)
     }
@@ -309,11 +305,22 @@ fn note_newest(own: &mut Vec<Tid>, receipts: &Receipts, kind: StepKind, waiters:
     if kind.is_step() {
         return;
     }
-    note_and_wake(own, waiters, &receipts.last_entry());
+    note_rare(own, waiters, &receipts.last_entry());
+}
+
+/// What `note_and_wake` does, in a function of its own, so that the path of a step is short.
+#[cold]
+#[inline(never)]
+fn note_rare(own: &mut Vec<Tid>, waiters: &Waiters, entry: &EntryRef<'_>)
+    requires { length (with_one (started_in entry.now.event entry.now.reply) own.old.items) ≤ vec_capacity own.old }
+    ensures own { own.new.items ≡ open_by own.old.items entry.now.event entry.now.reply }
+    ensures count { vec_len own.new ≡ length (open_by own.old.items entry.now.event entry.now.reply) }
+{
+    note_and_wake(own, waiters, entry);
 }
 
 /// Records what an entry says of the session's own transactions, and wakes all waiting commits if it ends one.
-#[inline]
+#[inline(always)]
 fn note_and_wake(own: &mut Vec<Tid>, waiters: &Waiters, entry: &EntryRef<'_>)
     requires { length (with_one (started_in entry.now.event entry.now.reply) own.old.items) ≤ vec_capacity own.old }
     ensures own { own.new.items ≡ open_by own.old.items entry.now.event entry.now.reply }

@@ -123,10 +123,11 @@ impl<'a, N: Named, R: Records, A: Accesses, G: Graph, T: Gate, W: Wait> Caller<
         }
     }
 
-    /// Steps until the procedure ends, and commits.
+    /// Steps until the procedure ends, and commits. The gate allows each call. The last call's entry is the session's last.
     fn run_transaction(&mut self, t: Tid) -> Result<Attempt<T::Note>, Halt<T::Note>> {
         for _ in self.rt.forever() {
-            match self.step(t)? {
+            self.pass()?;
+            match self.session.make_step(self.rt, self.shared, t)? {
                 StepKind::Access => {}
                 StepKind::End => break,
                 StepKind::Other => {
@@ -149,14 +150,6 @@ impl<'a, N: Named, R: Records, A: Accesses, G: Graph, T: Gate, W: Wait> Caller<
         self.pass()?;
         self.session.make(self.rt, self.shared, event)?;
         Ok(())
-    }
-
-    /// One step, if the gate allows it. Its entry is the session's last.
-    fn step(&mut self, t: Tid) -> Result<StepKind, Halt<T::Note>>
-        ensures { OnOk result (0 < length self.new.session) }
-    {
-        self.pass()?;
-        Ok(self.session.make_step(self.rt, self.shared, t)?)
     }
 
     /// Calls the gate with the number of calls that the session has made, which is the number of its receipts.

@@ -5,8 +5,8 @@ use Rattle.sgt_session.proofs.Filed.{last_of}
 use Rattle.sgt_session.proofs.Owns.{quiet_own}
 use Rattle.sgt_session.proofs.session.note_newest.Goals as goal
 
-pub note_and_wake-requires : goal.note_and_wake-requires
-note_and_wake-requires c =
+pub note_rare-requires : goal.note_rare-requires
+note_rare-requires c =
     let last = last_of c.args.receipts.now.receipts c.requires.some in
     let same : c.last_entry.result ≡ entry_of last.1 = c.last_entry.ensures last.0 last.1 last.2 in
     rw same (c.requires.spare last.0 last.1 last.2)
@@ -24,9 +24,9 @@ returns-then-is_step-clause-count c rs r is =
 pub returns-clause-own : goal.returns-clause-own
 returns-clause-own c rs r is =
     let same : c.last_entry.result ≡ entry_of r = c.last_entry.ensures rs r is in
-    rw same at c.note_and_wake.ensures.own
+    rw same at c.note_rare.ensures.own
 
 pub returns-clause-count : goal.returns-clause-count
 returns-clause-count c rs r is =
     let same : c.last_entry.result ≡ entry_of r = c.last_entry.ensures rs r is in
-    rw same at c.note_and_wake.ensures.count
+    rw same at c.note_rare.ensures.count
