@@ -42,6 +42,29 @@ def check(program, given, *options):
     return ran.returncode, ran.stdout.decode(), ran.stderr.decode()
 
 
+# What standard error may say after a report.
+NOTES = re.compile(r"(?m)^(?:[0-9]+ committed reads? (?:is|are) null, and|the end in line [0-9]+ has no invocation, and is|[0-9]+ ends have no invocation, the first in line [0-9]+: each is) taken for .*\n")
+
+
+def notes_on(entries):
+    """What standard error says after a report: how many committed reads are null, and how many ends have no invocation among others."""
+    nulls = sum(word == "r" and seen is None for it in entries if it["type"] == "ok" for word, _, seen in it["value"])
+    alone, running = [], set()
+    for line, it in enumerate(entries, 1):
+        if it["type"] == "invoke":
+            running.add(it["process"])
+        elif it["process"] in running:
+            running.discard(it["process"])
+        else:
+            alone.append(line)
+    notes = f"{nulls} committed read{' is' if nulls == 1 else 's are'} null, and taken for the empty list\n" * (nulls > 0)
+    if len(alone) == 1 and len(entries) > 1:
+        notes += f"the end in line {alone[0]} has no invocation, and is taken for a transaction by itself\n"
+    elif alone and any(it["type"] == "invoke" for it in entries):
+        notes += f"{len(alone)} ends have no invocation, the first in line {alone[0]}: each is taken for a transaction by itself\n"
+    return notes
+
+
 # A report, by the definitions
 
 PLACED = r"t(\d+)(?: \((?:line|entry) \d+\))?"
@@ -200,7 +223,7 @@ def compare(program, draw, history, strict):
     given = lines_of(entries)
     try:
         status, text, errors = check(program, given, *(["--strict"] if strict else []))
-        same("standard error", "", errors)
+        same("standard error", notes_on(entries), errors)
         Reported(history, spans, strict).compare(status, text, orders)
     except (Differs, ValueError, AttributeError) as why:
         raise Differs(f"{why}\n{given}") from None
@@ -592,7 +615,7 @@ def reads_each_form(program):
     history = NAMED["G2-item"]
     entries, _ = entries_of(random.Random(1), history)
     by_line = check(program, lines_of(entries))
-    by_entry = by_line[0], by_line[1].replace("(line ", "(entry "), ""
+    by_entry = by_line[0], by_line[1].replace("(line ", "(entry "), by_line[2]
     same("compact array", by_entry, check(program, json.dumps(entries, separators=(",", ":"))))
     same("array", by_entry, check(program, json.dumps(entries, indent=2)))
     same("indented", by_entry, check(program, "\n\n".join(json.dumps(it, indent=1) for it in entries)))
@@ -667,7 +690,8 @@ def takes_null_for_the_empty_list(program):
     entries, _ = entries_of(random.Random(1), NAMED["G2-item"])
     wanted = check(program, lines_of(entries).replace("null", "[]"))
     same("verdict", "serializable no: G2-item", wanted[1].splitlines()[1])
-    same("null", wanted, check(program, lines_of(entries).replace("[]", "null")))
+    given = lines_of(entries).replace("[]", "null")
+    same("null", (*wanted[:2], notes_on([json.loads(line) for line in given.splitlines()])), check(program, given))
 
 
 def takes_processes_of_any_name(program):
@@ -692,8 +716,8 @@ def takes_keys_of_any_name(program):
         name = {1: first, 2: second}
         renamed = [it | {"value": [[word, name[key], what] for word, key, what in it["value"]]} if it["value"] else it for it in entries]
         report = re.sub(r"key (\d)", lambda it: f"key {name[int(it[1])]}", wanted[1])
-        same(f"keys {name}", (1, report, ""), check(program, lines_of(renamed)))
-        same(f"keys {name} in EDN", (1, report, ""), check(program, "".join(edn(it) + "\n" for it in renamed)))
+        same(f"keys {name}", (1, report, wanted[2]), check(program, lines_of(renamed)))
+        same(f"keys {name} in EDN", (1, report, wanted[2]), check(program, "".join(edn(it) + "\n" for it in renamed)))
 
 
 def takes_values_with_a_sign(program):
@@ -704,8 +728,8 @@ def takes_values_with_a_sign(program):
         for most in (-7, 4_294_967_296, 999_999_999_999_990, -999_999_999_999_999):
             renamed, _ = entries_of(random.Random(1), [with_values(one, lambda value, most=most: most + value) for one in history])
             report = re.sub(r"\b777(\d)\b", lambda it, most=most: str(most + int(it[1])), wanted[1])
-            same(f"values from {most}", (1, report, ""), check(program, lines_of(renamed)))
-            same(f"values from {most} in EDN", (1, report, ""), check(program, "".join(edn(it) + "\n" for it in renamed)))
+            same(f"values from {most}", (1, report, wanted[2]), check(program, lines_of(renamed)))
+            same(f"values from {most} in EDN", (1, report, wanted[2]), check(program, "".join(edn(it) + "\n" for it in renamed)))
     for value in ("-1000000000000000", "-1.0", '"-1"', "1e2", "-0.0"):
         same(f"value {value}", 2, check(program, '{"type":"ok","process":1,"value":[["append",1,' + value + "]]}")[0])
 
@@ -800,6 +824,78 @@ def says_that_an_end_ends_nothing(program):
     same("two invocations", (2, "", twice), check(program, began + GOOD + began))
 
 
+def says_that_an_end_comes_too_early(program):
+    """An end of a process whose next entry is the invoke of the same append."""
+    began = GOOD.replace("ok", "invoke")
+    twice = "line 2 appends 1 to key 1 a second time, after line 1\n"
+    early = "the first of them is an end without an invocation, and the second one the invoke of its process: an invoke stands before its end\n"
+    for end in ("ok", "fail", "info"):
+        same(f"{end} before its invoke", (2, "", twice + early), check(program, GOOD.replace("ok", end) + began))
+    same("of another process", (2, "", f"{twice}{APPENDED_ONCE}\n"), check(program, GOOD + began.replace('"process":0', '"process":1')))
+    same("two ends", (2, "", f"{twice}{APPENDED_ONCE}\n"), check(program, GOOD + GOOD))
+
+
+def says_what_it_takes_for_something_else(program):
+    """On standard error after a report: committed reads of null, and ends without an invocation among others."""
+    read = '{"type":"%s","process":%d,"f":"txn","value":[["r",1,%s],["r",2,%s]]}\n'
+    nulls, alone = "committed reads are null, and taken for the empty list", "taken for a transaction by itself"
+    began = GOOD.replace("ok", "invoke")
+    for given, reported in (
+        (read % ("ok", 0, "null", "null"), f"2 {nulls}\n"),
+        (read % ("ok", 0, "[]", "null"), f"1 committed read is null, and taken for the empty list\n"),
+        (read % ("ok", 0, "[]", "[]"), ""),
+        (read % ("invoke", 0, "null", "null") + read % ("ok", 0, "[]", "[]"), ""),
+        (read % ("fail", 0, "null", "null"), ""),
+        (read % ("info", 0, "null", "null"), ""),
+        (began + GOOD + read % ("ok", 0, "[1]", "[]"), f"the end in line 3 has no invocation, and is {alone}\n"),
+        (read % ("ok", 1, "[]", "null") + began + read % ("info", 2, "null", "null") + read % ("fail", 2, "null", "null"),
+         f"1 committed read is null, and taken for the empty list\n3 ends have no invocation, the first in line 1: each is {alone}\n"),
+    ):
+        for text in (given, "".join(edn(json.loads(line)) + "\n" for line in given.splitlines())):
+            same(f"{text!r}", (0, reported), check(program, text)[::2])
+            for option in ("--json", "--graph", "--timeline"):
+                same(f"{text!r} {option}", (0, ""), check(program, text, option)[::2])
+
+
+def names_the_entry_that_is_glued(program):
+    """A line that is cut anywhere inside of its value, and goes on with the next one: the column of the next one."""
+    entries, _ = entries_of(random.Random(1), NAMED["G2-item"])
+    count = 0
+    for lines in (lines_of(entries).splitlines(), [edn(it) for it in entries]):
+        for place in (0, len(lines) - 2):
+            for cut in range(20, len(lines[place])):
+                if re.search(r" (n|nu|nul)$", lines[place][:cut]):
+                    continue  # The word is wrong before the next entry begins.
+                given = "\n".join([*lines[:place], lines[place][:cut] + lines[place + 1], *lines[place + 2:]])
+                status, text, errors = check(program, given)
+                where, *hint = errors.splitlines()
+                same(f"a cut after {lines[place][:cut]!r}", (2, "", True), (status, text, where.startswith(f"line {place + 1}, entry {place + 1}: no JSON from column ")))
+                same(f"hint of a cut after {lines[place][:cut]!r}", [f"another entry begins in column {cut + 1}, inside entry {place + 1}: was the line cut off before it?"], hint)
+                count += 1
+    return f"{count} lines"
+
+
+def draws_what_the_lines_above_say(program):
+    """The picture of a level that the lines above break: their cycle, and no other one."""
+    given = "".join(f'{{"type":"ok","process":{number},"f":"txn","value":{value}}}\n' for number, value in
+                    enumerate(('[["append","x",1]]', '[["append","x",2]]', '[["r","x",[]],["r","x",[1,2]]]')))
+    status, text, _ = check(program, given, "--timeline", "--level", "snapshot-isolation")
+    same("status", 1, status)
+    if "not snapshot isolation: by the lines above" not in text:
+        raise Differs(f"the report is another one: {text}")
+    same("the transactions", {"1", "3"}, set(re.findall(r"[rwca](\d+)", " ".join(it.title for it in Drawing(text).marks))))
+
+
+def says_what_is_left_out_of_an_order(program):
+    """Aborted transactions, or those after the first ones of a long order."""
+    one = '{"type":"%s","process":%d,"f":"txn","value":[%s]}\n'
+    given = one % ("ok", 0, '["append","x",1]') + one % ("fail", 1, '["append","x",2]') + one % ("ok", 2, '["r","x",[1]]')
+    for text, said in ((given, "drawn: 4 of 6 operations: those of the order, which has no aborted transactions"),
+                       ("".join(one % ("ok", it, f'["append",{it},1]') for it in range(300)), "drawn: 400 of 600 operations: those of the first transactions of the order")):
+        if said not in check(program, text, "--timeline")[1]:
+            raise Differs(f"not said: {said}")
+
+
 def answers_without_time_if_asked(program):
     """With --strict the status of --level serializable is that of serializable alone: the report has both."""
     stale = in_turn([one("ok", (A, 1, 1)), one("ok", (R, 1, (1,))), one("ok", (R, 1, ()))])
@@ -852,7 +948,11 @@ GOOD = '{"type":"ok","process":0,"f":"txn","value":[["append",1,1]]}\n'
 AN_ENTRY = 'an entry is an object, and its value a list of operations, as {"type":"ok","process":0,"value":[["append",1,2],["r",1,[2]]]}'
 SAME_OPERATIONS = "an end has the operations of its invoke, in their order, and in place of null what the reads saw"
 APPENDED_ONCE = "each append to a key has a value of its own, as from a counter: else a read does not say which one it saw"
-OTHER_FORMS = ("no object", "the value is not a list of operations", 'is not ["append",key,value] or ["r",key,values]')
+EDN_ENTRY = "an entry is a map, and its value a vector of operations, as {:type :ok, :process 0, :value [[:append 1 2] [:r 1 [2]]]}"
+NO_OPERATION = 'is not ["append",key,value] or ["r",key,values]'
+NOT_LISTED = "the value is not a list of operations"
+IS_JSON = "this entry is JSON, and the first one is EDN: an input has one of them"
+IS_NIL = "EDN has nil, not null or None: a read whose list is not known yet, or is empty, may have it"
 
 # Faulty inputs, with what is reported for them.
 IS_TEXT = "; text like r1[x] is read without --model list-append"
@@ -878,10 +978,11 @@ FAULTS = {
     "\xef\xbb\xbf" + GOOD: "line 1, entry 1: no JSON from column 1 on\na byte order mark: save the input without it",
     GOOD + "\xc2\xa0" + GOOD: "line 2, entry 2: no JSON from column 1 on\na character that is not ASCII",
     '[{"type":"ok","process":0,"value":[]},{"type" "ok"}]': "line 1, entry 2: no JSON from column 47 on",
+    '{"type" "ok","process":0,"value":[]}': "line 1, entry 1: no JSON from column 9 on\na colon is missing before it",
     GOOD + "{'type':'ok'}": "line 2, entry 2: no JSON from column 2 on\na text stands in double quotes in JSON",
     GOOD + "{type:'ok'}": "line 2, entry 2: no JSON from column 2 on\na word stands in double quotes in JSON, but for null, true and false",
     GOOD.replace("[[", "[(").replace("]]", ")]"): "line 1, entry 1: no JSON from column 45 on\na list stands in square brackets in JSON",
-    GOOD.replace("]]", "],]"): "line 1, entry 1: no JSON from column 60 on\nnothing stands after the comma in JSON",
+    GOOD.replace("]]", "],]"): "line 1, entry 1: no JSON from column 60 on\nan item is missing after the comma, or the comma is too many: JSON has none before a bracket that closes",
     GOOD.strip() + " // one": "line 1, entry 2: no JSON from column 62 on\nJSON has no comments",
     '{"type":"ok","process":0,"value":[["r",1,None]]}': "line 1, entry 1: no JSON from column 42 on\nJSON has null, true and false, in small letters",
     " r1[x]": "line 1, entry 1: no JSON from column 2 on" + IS_TEXT,
@@ -898,40 +999,43 @@ FAULTS = {
     EDN.replace("]]", "]") + EDN: "line 1, entry 1: no JSON from column 55 on\n} stands here, and [ of line 1, column 41 is not closed",
     EDN + "{:type :ok, :process 0, :f :txn, :value #_5 [[:append 1 2]]}":
         "line 2, entry 2: no JSON from column 42 on\n#_ is not read: leave out what it discards",
-    EDN + "{:type :ok, :process 0, :f :txn, :value}": "line 2, entry 2: no JSON from column 40 on",
+    EDN + "{:type :ok, :process 0, :f :txn, :value}": "line 2, entry 2: no JSON from column 40 on\na map ends here after a key without a value",
     EDN + "}": "line 2, entry 2: no JSON from column 1 on\n} stands here, and nothing is open that it closes",
     EDN + "#{:type :ok}": NO_EDN,
     EDN + ":ok": "line 2, entry 2: no object",
-    EDN + EDN.replace("ok", "done"): "line 2, entry 2: the type is not invoke, ok, fail or info",
-    EDN.replace("[[:append 1 1]]", "[[:r 1 #{1}]]"): 'line 1, entry 1: operation 1 is not ["append",key,value] or ["r",key,values]',
-    EDN.replace("[[:append 1 1]]", "[[:r 1 {1 2}]]"): 'line 1, entry 1: operation 1 is not ["append",key,value] or ["r",key,values]',
-    EDN.replace("[[:append 1 1]]", "[[:append 1 1N]]"): "line 1, entry 1: operation 1 has a value that is not a whole number of at most 15 digits",
+    EDN + EDN.replace("ok", "done"): "line 2, entry 2: the type is not invoke, ok, fail or info\nfound done",
+    EDN.replace("[[:append 1 1]]", "[[:r 1 #{1}]]"): f"line 1, entry 1: operation 1 {NO_OPERATION}\n{EDN_ENTRY}",
+    EDN.replace("[[:append 1 1]]", "[[:r 1 {1 2}]]"): f"line 1, entry 1: operation 1 {NO_OPERATION}\n{EDN_ENTRY}",
+    **{EDN + EDN.replace("[[:append 1 1]]", f"[[:append 9 1] [:r 3 {word}]]"): f"line 2, entry 2: operation 2 {NO_OPERATION}\n{IS_NIL}" for word in ("null", "None")},
+    EDN + EDN.replace("[[:append 1 1]]", "5"): f"line 2, entry 2: {NOT_LISTED}\n{EDN_ENTRY}",
+    EDN + GOOD.replace(',"f":"txn"', ""): f"line 2, entry 2: the process is not a whole number or a text\n{IS_JSON}",
+    GOOD.replace('{"ty', ""): "line 1, entry 1: no JSON from column 1 on\nthe input begins inside an entry: was its head cut off? Leave out the part before the first whole entry",
+    EDN.replace("[[:append 1 1]]", "[[:append 1 1N]]"): "line 1, entry 1: operation 1 has a value that is not a whole number of at most 15 digits\nfound 1N",
     GOOD + "{\n": "line 2, entry 2: no JSON from column 2 on\n" + cut_input(2, 2),
     GOOD + '{"type":"ok",\n "process" 1}': "line 3, entry 2: no JSON from column 12 on",
     "5": "line 1, entry 1: no object",
     '"{"': "line 1, entry 1: no object",
     "\xff": None,
-    GOOD + GOOD.replace(":", "", 1): "line 2, entry 2: no JSON from column 8 on",
+    GOOD + GOOD.replace(":", "", 1): "line 2, entry 2: no JSON from column 8 on\na colon is missing before it",
     GOOD + "\n" + '{"process":0}': "line 3, entry 2: the type is not invoke, ok, fail or info\ntype is missing",
     '{"type":"ok"}': "line 1, entry 1: the process is not a whole number or a text\nprocess is missing",
-    '{"type":"ok","process":-1.5}': "line 1, entry 1: the process is not a whole number or a text",
-    EDN.replace(":process 0", ":process [1]"): "line 1, entry 1: the process is not a whole number or a text",
-    GOOD.replace("1,1", "-1.5,1"): f"line 1, entry 1: {KEY} 1 {NO_KEY}",
-    '{"type":"done","process":1}': "line 1, entry 1: the type is not invoke, ok, fail or info",
-    '{"type":"ok","process":null,"f":"txn"}': "line 1, entry 1: the process is not a whole number or a text",
-    '{"type":"ok","process":"c0","f":"txn","value":5}': "line 1, entry 1: the value is not a list of operations",
-    '{"type":"ok","process":1,"value":null}': "line 1, entry 1: the value is not a list of operations",
+    '{"type":"ok","process":-1.5}': "line 1, entry 1: the process is not a whole number or a text\nfound -1.5",
+    EDN.replace(":process 0", ":process [1]"): "line 1, entry 1: the process is not a whole number or a text\nfound [1]",
+    GOOD.replace("1,1", "-1.5,1"): f"line 1, entry 1: {KEY} 1 {NO_KEY}\nfound -1.5",
+    '{"type":"done","process":1}': 'line 1, entry 1: the type is not invoke, ok, fail or info\nfound "done"',
+    '{"type":"ok","process":null,"f":"txn"}': "line 1, entry 1: the process is not a whole number or a text\nfound null",
+    '{"type":"ok","process":"c0","f":"txn","value":5}': f"line 1, entry 1: {NOT_LISTED}\nfound 5: {AN_ENTRY}",
+    '{"type":"ok","process":1,"value":null}': f"line 1, entry 1: {NOT_LISTED}\nfound null: {AN_ENTRY}",
     '{"type":"invoke","process":1}': "line 1, entry 1: the value is not a list of operations\nvalue is missing",
-    '{"type":"ok","process":1,"value":[[]]}': 'line 1, entry 1: operation 1 is not ["append",key,value] or ["r",key,values]',
-    '{"type":"ok","process":1,"value":[["r",1,[]],["w",1,2]]}': 'line 1, entry 1: operation 2 is not ["append",key,value] or ["r",key,values]',
-    '{"type":"ok","process":1,"value":[["r",1,5]]}': 'line 1, entry 1: operation 1 is not ["append",key,value] or ["r",key,values]',
-    '{"type":"ok","process":1,"value":[["r",1,["a"]]]}': "line 1, entry 1: operation 1 has a value that is not a whole number of at most 15 digits",
-    '{"type":"ok","process":1,"value":[["append",1,1000000000000000]]}': "line 1, entry 1: operation 1 has a value that is not a whole number of at most 15 digits",
-    '{"type":"ok","process":1,"value":[["append",1,1.5]]}': "line 1, entry 1: operation 1 has a value that is not a whole number of at most 15 digits",
+    '{"type":"ok","process":1,"value":[[]]}': f"line 1, entry 1: operation 1 {NO_OPERATION}\nfound []: {AN_ENTRY}",
+    '{"type":"ok","process":1,"value":[["r",1,[]],["w",1,2]]}': f'line 1, entry 1: operation 2 {NO_OPERATION}\nfound ["w",1,2]: {AN_ENTRY}',
+    '{"type":"ok","process":1,"value":[["r",1,5]]}': f'line 1, entry 1: operation 1 {NO_OPERATION}\nfound ["r",1,5]: {AN_ENTRY}',
+    '{"type":"ok","process":1,"value":[["r",1,["a"]]]}': 'line 1, entry 1: operation 1 has a value that is not a whole number of at most 15 digits\nfound "a"',
+    '{"type":"ok","process":1,"value":[["append",1,1000000000000000]]}': "line 1, entry 1: operation 1 has a value that is not a whole number of at most 15 digits\nfound 1000000000000000",
+    '{"type":"ok","process":1,"value":[["append",1,1.5]]}': "line 1, entry 1: operation 1 has a value that is not a whole number of at most 15 digits\nfound 1.5",
     '{"type":"ok","process":1,"value":[["append",null,1]]}':
-        "line 1, entry 1: the key of operation 1 is not a whole number, or a text of 1 to 64 letters, digits and _ . / : -",
-    '{"type":"ok","process":1,"value":[["append","a b",1]]}':
-        "line 1, entry 1: the key of operation 1 is not a whole number, or a text of 1 to 64 letters, digits and _ . / : -",
+        f"line 1, entry 1: {KEY} 1 {NO_KEY}\nfound null",
+    '{"type":"ok","process":1,"value":[["append","a b",1]]}': f'line 1, entry 1: {KEY} 1 {NO_KEY}\nfound "a b"',
     '{"type":"invoke","process":1,"value":[]}' * 2:
         "line 1, entry 2: process 1 has invoked another transaction, line 1, entry 1, and has not ended it\n" + RESTART,
     '{"type":"invoke","process":"c 1","value":[]}' * 2:
@@ -961,8 +1065,7 @@ def reports_faults(program):
             continue
         if isinstance(wanted, re.Pattern):
             wanted = errors.rstrip() if wanted.fullmatch(errors.rstrip()) else wanted.pattern
-        if wanted.endswith(OTHER_FORMS):
-            wanted += "\n" + AN_ENTRY
+        wanted += f"\n{AN_ENTRY}" * wanted.endswith("no object")
         wanted += f"\n{SAME_OPERATIONS}" * ("the operations are not those" in wanted) + f"\n{APPENDED_ONCE}" * (" a second time, " in wanted)
         same(f"fault of {given[:80]!r}", (2, "", wanted + "\n"), (status, text, errors))
 
@@ -997,6 +1100,7 @@ def survives_hostile_bytes(program):
             place = draw.randrange(len(bad))
             bad[place:place + draw.randint(0, 3)] = draw.choice([b"", b"\"", b"{", b"}", b"[", b"]", b"\\", b"\xff", b"9" * 30, b"null"])
         status, text, errors = check(program, bytes(bad))
+        errors = errors if status == 2 else NOTES.sub("", errors)
         if (status, bool(text), bool(errors)) not in ((0, True, False), (1, True, False), (2, False, True)):
             raise Differs(f"status {status}, {text!r}, {errors!r} on {bytes(bad)!r}")
         count += status == 2
@@ -1118,7 +1222,8 @@ CASES = [on_all_small_histories, on_drawn_histories, on_drawn_histories_strictly
          shows_values_of_a_long_read, shows_where_two_long_reads_part, ends_on_long_ones, reads_each_form, reads_edn, notices_a_wrong_bracket_in_edn,
          takes_null_for_the_empty_list, takes_processes_of_any_name, takes_keys_of_any_name,
          takes_values_with_a_sign, skips_what_is_no_transaction, refuses_nothing,
-         refuses_an_end_of_other_operations, keeps_time_only_with_invocations, keeps_time_in_little_memory, says_that_an_end_ends_nothing, answers_without_time_if_asked, reports_faults, names_the_line_that_is_cut, survives_hostile_bytes, needs_its_model, hints_at_its_model, draws_its_witness, recorded_ones,
+         refuses_an_end_of_other_operations, keeps_time_only_with_invocations, keeps_time_in_little_memory, says_that_an_end_ends_nothing, says_that_an_end_comes_too_early, says_what_it_takes_for_something_else,
+         draws_what_the_lines_above_say, says_what_is_left_out_of_an_order, names_the_entry_that_is_glued, answers_without_time_if_asked, reports_faults, names_the_line_that_is_cut, survives_hostile_bytes, needs_its_model, hints_at_its_model, draws_its_witness, recorded_ones,
          records_databases]
 
 if __name__ == "__main__":

@@ -712,11 +712,17 @@ ENDS = "the JSON of this line ends before it"
 OWN_LINE = "each event, job or record stands on a line of its own"
 
 # What is said of a first line that is too long.
-ACCOUNTS_AS_RECORDS = 'accounts may follow as lines, as ["record",0,1,101] for the customer 101 of name 1; 1 and 2 are the tables of saving and checking'
+ACCOUNTS_AS_RECORDS = 'accounts may follow as lines, as ["record",0,1,101] for the customer 101 of name 1; 1 and 2 are the tables of saving and checking; procedures stand in line 1 alone'
 
 # What is said of what stands where the name of a member has to.
 A_NAME = "the name of a member stands here in double quotes"
 A_REQUEST = "an event, a job or a record is a list, in square brackets"
+
+# What is said of a comma with nothing after it, of a bracket that closes nothing, and of a key in one piece.
+NO_ITEM = "nothing stands between the comma and this bracket: an item is missing, or the comma is too many"
+CLOSES_NOTHING = "an object ends in }, and no list is open: this ] or one before it is too many"
+TWO_NUMBERS = "a key is written as two numbers, its table and its number: 2,101 for 2/101"
+MADE_BEFORE = 'an account of line 1 or a record line before makes it; where records follow, line 1 may have "accounts":[]'
 
 # Lines that are not JSON, with the column of the first wrong character, and what is said of it.
 FIRST_WRONG = (
@@ -742,6 +748,13 @@ FIRST_WRONG = (
     ('["job":5,[1]]', 7, "a comma separates the items of a list"),
     ('["job",5,[1;2]]', 12, "a comma separates the items of a list"),
     ('["job",5,[1 2]]', 13, "a comma is missing before it"),
+    ('["commit"0]', 10, "a comma is missing before it"),
+    ('["start"-5,[1]]', 9, "a comma is missing before it"),
+    ('["read",0,2/101]', 12, TWO_NUMBERS),
+    ('["write",0,2/-101,5]', 13, TWO_NUMBERS),
+    ('["read",0,2/x]', 12, "there are no comments"),
+    ("0/7 107", 2, 'a record is written as ["record",table,number,value], as --records does'),
+    ('{"limits":[4,100],"accounts":[[1,101,500,1000]]],"procedures":[]}', 48, CLOSES_NOTHING),
     ('["step"=0]', 8, "a comma separates the items of a list"),
     ('["step":0]', 8, "a comma separates the items of a list"),
     ('{"limits":[4,1000];"accounts":[]}', 19, "a comma separates the members of an object"),
@@ -797,7 +810,7 @@ EXPLAINED_OPENINGS = (
     ("{'limits':[1,1]}", "not JSON", "column 2: not JSON from here: a text stands in double quotes"),
     ("{limits:[1,1]}", "not JSON", "column 2: not JSON from here: a word stands in double quotes"),
     ('{"limits":[1,1]', "not JSON", f"column 16: {GOES_ON}"),
-    ('{"limits":[1,1],}', "not JSON", "column 17: not JSON from here: nothing stands after the comma"),
+    ('{"limits":[1,1],}', "not JSON", f"column 17: not JSON from here: {NO_ITEM}"),
     ('{"limits":[1,1],"accounts":[],"procedures":[[0,[["answer",1]],[0,[]]]}', "not JSON",
      'column 63: ] is expected here: a bracket is missing or too many in or after ["answer",1]] at column 49, a statement of procedure 5, which begins at column 45'),
     ('{"limits":[1,1],"accounts":[],"procedures":[[0,[["ask",1]]],[ 12 , [["answer",["sum",1,2]]]}', "not JSON",
@@ -905,6 +918,10 @@ EXPLAINED_EVENTS = (
     ('["read","[\\",",3,1]'.replace('"[', '@"['), 'expected a transaction from 0 to 4294967295, found "[\\","'),
     ('["start",@"Balance",[1]]', 'expected a procedure from 0 to 65535, found "Balance": a procedure is named by its number, and those of line 1 are numbered from 5'),
     ("[]", 'expected an event, as ["step",0], found []'),
+    (opening().strip(), "an object with limits stands in line 1 alone: leave it out here"),
+    ('["step",0,' + "1," * 30 + "1]", 'expected ["step",transaction], found ["step",0,1,1,1,1,1,1,1,1,1,1,1,1,1,1,1,.. with 33 parts, not 2: a bracket may end too early or too late'),
+    ('["write",' + "1234567890123," * 6 + "1]",
+     'expected ["write",transaction,table,number,value], found ["write",1234567890123,1234567890123,123.. with 8 parts, not 5: a bracket may end too early or too late'),
     ('[["step",0]]', 'expected an event, as ["step",0], found [["step",0]]'),
     ('{"step" : 0, "at" : [ ], "b" : 1}', 'expected an event, as ["step",0], found {"step":0,"at":[],"b":1}'),
     ('["step",@100000000000000000000]', "expected a transaction from 0 to 4294967295, found 100000000000000000000"),
@@ -935,6 +952,7 @@ EXPLAINED_EVENTS = (
 
 EXPLAINED_JOBS = (
     ("{}", 'expected a job, as ["job",0,[1]], found {}'),
+    (opening().strip(), "an object with limits stands in line 1 alone: leave it out here"),
     ('["jobs",0,[]]', f'unknown word "jobs": {A_JOB}'),
     ('["step",0]', 'an event stands in the input of "sgt bank", which takes jobs: ["job",procedure,[argument,..]]'),
     ('["begin"]', 'an event stands in the input of "sgt bank", which takes jobs: ["job",procedure,[argument,..]]'),
@@ -952,8 +970,8 @@ EXPLAINED_RECORDS = (
     ('["record",3,@1000000000000000,1]', "the number is 1000000000000000, and has to be from -999999999999999 to 999999999999999"),
     ('["record",3,@-9223372036854775808,1000000000000000]', "the number is -9223372036854775808, and has to be from -999999999999999 to 999999999999999"),
     ('["record",4,7,@-1000000000000000]', "the value is -1000000000000000, and has to be from -999999999999999 to 999999999999999"),
-    ('["record",4,7,7]', "record 4/7 is there already"),
-    ('["record",2,101,1]', "record 2/101 is there already"),
+    ('["record",4,7,7]', f"record 4/7 is there already: {MADE_BEFORE}"),
+    ('["record",2,101,1]', f"record 2/101 is there already: {MADE_BEFORE}"),
 )
 
 # Lines that are no record lines, and end the records.
@@ -1079,10 +1097,10 @@ def explains_brackets(sgt):
         reports_more(sgt, ["script"], given, "line 1: not JSON\n", f"column {len(first) + len(before) + column}: {more}\n")
     # Errors elsewhere, and those that only the end of the line shows.
     for line, more in (
-        ('{"limits":[1,1]],"accounts":[],"procedures":[]}', "column 16: not JSON from here: an object ends in }"),
-        ('{"limits":[1,1],"accounts":[],"procedures":[]]}', "column 46: not JSON from here: an object ends in }"),
+        ('{"limits":[1,1]],"accounts":[],"procedures":[]}', f"column 16: not JSON from here: {CLOSES_NOTHING}"),
+        ('{"limits":[1,1],"accounts":[],"procedures":[]]}', f"column 46: not JSON from here: {CLOSES_NOTHING}"),
         ('{"limits":[1,1],"accounts":[[1,2,3,4},"procedures":[[0,[]]]}', "column 37: not JSON from here: a list ends in ]"),
-        ('{"limits":[1,1],"accounts":[],"procedures":[[0,[["ask",2,]]]]}', "column 58: not JSON from here: nothing stands after the comma"),
+        ('{"limits":[1,1],"accounts":[],"procedures":[[0,[["ask",2,]]]]}', f"column 58: not JSON from here: {NO_ITEM}"),
         ('{"limits":[1,1],"accounts":[],"procedures":[[0,[["ask",2]]]]', f"column 61: {GOES_ON}"),
     ):
         reports_more(sgt, ["script"], f"{line}\n", "line 1: not JSON\n", f"{more}\n")
@@ -1155,11 +1173,11 @@ def explains_lines_of_no_json(sgt):
         (b" \r", "column 1: the line is empty: leave it out"),
         (b"\xef\xbb\xbf[]", "column 1: a byte order mark: save the input without it"),
         (b'["step",0', f"column 10: {GOES_ON}"),
-        (b'["step",0]]', "column 11: not JSON from here: the JSON of this line ends before it"),
+        (b'["step",0]]', f"column 11: not JSON from here: {ENDS}: this bracket closes nothing, and may be too many"),
         (b'["step",0] ["step",0]', f"column 12: not JSON from here: {ENDS}: {OWN_LINE}"),
         (b'["step",0] # go', f"column 12: not JSON from here: {ENDS}: there are no comments"),
         (b'["step",0]// go', f"column 11: not JSON from here: {ENDS}: there are no comments"),
-        (b'["step",0, ]', "column 12: not JSON from here: nothing stands after the comma"),
+        (b'["step",0, ]', f"column 12: not JSON from here: {NO_ITEM}"),
         (b'["step" 0]', "column 9: not JSON from here: a comma is missing before it"),
         (b'["step",,0]', "column 9: not JSON from here: nothing stands before the comma"),
         (b'["step";0]', "column 8: not JSON from here: a comma separates the items of a list"),
@@ -1167,7 +1185,7 @@ def explains_lines_of_no_json(sgt):
         *((b'["start",0,[%s]]' % number, f"column 13: not JSON from here: {NUMBERS}") for number in (b"0x10", b"1_000", b"01", b"+1", b".5", b"-", b"-x")),
         (b'["start",5,[1,2}]', "column 16: not JSON from here: a list ends in ]"),
         (b'["step",0}', "column 10: not JSON from here: a list ends in ]"),
-        (b'{"step":[0]],"at":1}', "column 12: not JSON from here: an object ends in }"),
+        (b'{"step":[0]],"at":1}', f"column 12: not JSON from here: {CLOSES_NOTHING}"),
         (b"step 0", "column 1: not JSON from here: a word stands in double quotes"),
         *((b'["start",0,[%s]]' % number, "column 13: not JSON from here: JSON has no NaN and no Infinity") for number in (b"NaN", b"Infinity")),
         *((b'["start",0,[%s]]' % word, "column 13: not JSON from here: JSON has null, true and false, in small letters") for word in (b"None", b"True", b"False")),

@@ -83,7 +83,7 @@ FLAWED_AT = FLAWED.index(',1]]]]]}') + 2
 FAULTY = (
     (("script",), SCRIPT + '["stop",0]\n', REPLIES, "line 13: bad line\n", 'unknown word "stop": a line starts with start, step, commit, quit (abort), begin, read, write, remove or cut; before the first of these, with record\n'),
     (("script",), FLAWED, "", "line 1: procedure 5 flaw 3\n", f"column {FLAWED_AT}: procedure 5, at 1 0 2 1: argument 1 is not below 1, the number of arguments\n"),
-    (("script",), OPENING + '["record",1,101,7]\n', "", "line 2: bad record\n", "record 1/101 is there already\n"),
+    (("script",), OPENING + '["record",1,101,7]\n', "", "line 2: bad record\n", 'record 1/101 is there already: an account of line 1 or a record line before makes it; where records follow, line 1 may have "accounts":[]\n'),
     (BANK, JOBS + '["job",0,[\n', "", "line 5: not JSON\n", "column 11: the line ends where its JSON has to go on: each line is a JSON text of its own\n"),
 )
 

@@ -558,9 +558,9 @@ def explains_each_input(sgt):
 
 
 # The line of a job that did not commit at its first try; why a try failed; and the summary.
-REPORTED_JOB = re.compile(r"job (\d+): (committed|aborted with code (\d+)(?: \([a-z ]+\))?|given up|refused: (.*)|no memory)(?: at try (\d+))?((?:; try \d+: [^;]*)*)")
+REPORTED_JOB = re.compile(r"job (\d+): (committed|aborted with code (\d+)(?: \([a-z0, ]+\))?|given up|refused: (.*)|no memory)(?: at try (\d+))?((?:; try \d+: [^;]*)*)")
 FAILED_TRY = re.compile(r"try (\d+): (?:cycle with job ([\d, ]+)|aborted in cascade with job (\d+))")
-REPORTED_CODE = re.compile(r"code (\d+)(?: \([a-z ]+\))? of (.*): (\d+) (jobs?)")
+REPORTED_CODE = re.compile(r"code (\d+)(?: \([a-z0, ]+\))? of (.*): (\d+) (jobs?)")
 SUMMARY = "{} jobs: {} committed, {} aborted with a code, {} given up, {} refused, {} without memory; {} tries"
 
 
@@ -590,9 +590,9 @@ CODED = (
     (2, [1, -501], 3, " (the saving would be negative)"),
     (3, [1, 1], 4, " (both names are the same)"),
     (0, [7], 5, " (there is no saving or no checking)"),
-    (1, [1, 999999999999999], 1000, " (a result is not a value)"),
+    (1, [1, 999999999999999], 1000, " (a result is not a value, or a divisor is 0)"),
     (5, [], 5, ""),
-    (6, [], 1000, " (a result is not a value)"),
+    (6, [], 1000, " (a result is not a value, or a divisor is 0)"),
 )
 
 
@@ -630,7 +630,8 @@ def takes_words_for_codes(sgt):
         reported = "".join(f"job {job}: aborted with code {codes[procedure]}{said[procedure]} at try 1\n" for job, procedure in enumerate(said))
         reported += "".join(f"code {codes[procedure]}{said[procedure]} of {named[procedure]}: 1 job\n" for procedure in sorted(said))
         came = sgt.run("bank", "--explain", "--words", given, "--workers", "1", given=opening + jobs)
-        same("bank", (0, reported + SUMMARY.format(4, 0, 4, 0, 0, 0, 4) + "\n"), came[::2])
+        unsaid = f"{given}: line 3: procedure 6 never aborts with code 4; its codes are 5, 1000\n"
+        same("bank", (0, reported + SUMMARY.format(4, 0, 4, 0, 0, 0, 4) + "\n" + unsaid), came[::2])
         same("its output", sgt.run("bank", "--workers", "1", given=opening + jobs)[1], came[1])
         came = sgt.run("script", "--words", given, "--explain", given=opening + script)
         reported = [f"{named[procedure]} aborted {t} with code {codes[procedure]}{said[procedure]}" for t, procedure in enumerate(said)]
@@ -654,7 +655,7 @@ def takes_words_for_codes(sgt):
 
 def says_which_words_are_of_no_procedure(sgt):
     """The highest that the file names, if that is not there, after a run that ends well; also of an input that is longer than what is stored."""
-    own = '{"limits":[4,100],"accounts":[],"procedures":[[0,[]],[0,[]]]}\n'
+    own = '{"limits":[4,100],"accounts":[],"procedures":[[0,[["ask",1]]],[0,[["ask",1]]]]}\n'
     with tempfile.NamedTemporaryFile("w", suffix=".jsonl") as file:
         def words(*procedures):
             file.seek(0)
@@ -663,7 +664,7 @@ def says_which_words_are_of_no_procedure(sgt):
             file.flush()
 
         for opening, procedures, reported in ((OPENING, (0, 4), ""), (OPENING, (0, 5), "line 2: there is no procedure 5"), (own, (6, 5), ""),
-                                              (own, (5, 9, 8), "line 2: there is no procedure 9"), (own, (65535,), ""), (own, (), "")):
+                                              (own, (5, 9, 8), "line 2: there is no procedure 9"), (own, (), "")):
             words(*procedures)
             reported = f"{file.name}: {reported}\n" if reported else ""
             for command, first in (("script", ""), ("bank", SUMMARY.format(0, 0, 0, 0, 0, 0, 0) + "\n")):
@@ -672,6 +673,70 @@ def says_which_words_are_of_no_procedure(sgt):
         long = own + '["quit",0]\n' * 200_000
         same("the last line", f"{file.name}: line 1: there is no procedure 9", sgt.run("script", "--explain", "--words", file.name, given=long)[2].splitlines()[-1])
         same("an error", 'line 2: bad line\nexpected ["cut"], found ["cut",0]\n', sgt.run("script", "--explain", "--words", file.name, given=own + '["cut",0]\n')[2])
+
+
+def says_which_words_are_of_no_code(sgt):
+    """The first line of the file with a code that its procedure never raises, also deep inside of it."""
+    deep = '[1,[["if",["same",["arg",0],1],[["if",["same",1,1],[["ask",31]],[["look",0,1,["sum",1,2],32]]]],[["ask",33],["find",0,2,1,34]]]]]'
+    opening = f'{{"limits":[4,100],"accounts":[],"procedures":[[0,[]],{deep}]}}\n'
+    with tempfile.NamedTemporaryFile("w", suffix=".jsonl") as file:
+        def words(*named):
+            file.seek(0)
+            file.truncate()
+            file.write("".join(f'[{procedure},{code},"x"]\n' for procedure, code in named))
+            file.flush()
+
+        for named, reported in (
+            (((6, 31), (6, 32), (6, 33), (6, 1000), (5, 1000), (0, 1), (3, 4), (4, 1000)), ""),
+            (((6, 34), (6, 35)), "line 1: procedure 6 never aborts with code 34; its codes are 31, 32, 33, 1000"),
+            (((6, 31), (0, 4)), "line 2: procedure 0 never aborts with code 4; its codes are 1, 5, 1000"),
+            (((5, 1),), "line 1: procedure 5 never aborts with code 1; its codes are 1000"),
+            (((6, 0),), "line 1: procedure 6 never aborts with code 0; its codes are 31, 32, 33, 1000"),
+            (((6, 1001),), "line 1: procedure 6 never aborts with code 1001; its codes are 31, 32, 33, 1000"),
+            (((65535, 7),), "line 1: procedure 65535 never aborts with code 7"),
+            (((6, 34), (7, 1)), "line 2: there is no procedure 7"),
+        ):
+            words(*named)
+            reported = f"{file.name}: {reported}\n" if reported else ""
+            for command, first in (("script", ""), ("bank", SUMMARY.format(0, 0, 0, 0, 0, 0, 0) + "\n")):
+                same(f"{command} {named}", (0, first + reported), sgt.run(command, "--explain", "--words", file.name, given=opening)[::2])
+
+
+def says_what_is_wrong_with_words(sgt):
+    """In a second line: the part of a line of the file that is wrong, or where it is not JSON."""
+    with tempfile.NamedTemporaryFile("w", suffix=".jsonl") as file:
+        for line, more in (
+            ('[5,30,"tab\\there"]', "the words have a tab, a newline or another control character"),
+            ("", "column 1: the line is empty: leave it out"),
+            ("[5,31,a]", "column 7: not JSON from here: a word stands in double quotes"),
+            ('["5",31,"x"]', 'a procedure is a number from 0 to 65535, found "5"'),
+            ('[5,-1,"x"]', "a code is a number from 0 to 65535, found -1"),
+            ("[5,31,7]", "the words are a text in double quotes, found 7"),
+            ('[5,31,"a"],', "column 11: not JSON from here: the JSON of this line ends before it: each event, job or record stands on a line of its own"),
+            ("# mine", "column 1: not JSON from here: there are no comments"),
+            ('[5,31]', "found [5,31]"),
+            (f'[5,31,"{"x" * 201}"]', "the words are empty, or longer than 200 bytes"),
+            ('{"5":["31","too little money there"]}', 'found {"5":["31","too little money the..'),
+        ):
+            file.seek(0)
+            file.truncate()
+            file.write(f'[5,1,"x"]\n{line}\n[5,2,"x"]\n')
+            file.flush()
+            form = 'expected [procedure,code,"words"], as [5,10,"too little money"]; the words have 1 to 200 bytes'
+            came = sgt.run("script", "--explain", "--words", file.name, given=OPENING)
+            same(line, (2, "", f"cannot read {file.name}: line 2: {form}\n{more}\n"), came)
+
+
+def says_that_a_procedure_raises_a_code(sgt):
+    """Where a caller decides on an access after it, or commits before the code is reported."""
+    raises = "the procedure of 0 raises a code: its next step reports it, or with a third limit of 1 its commit"
+    events = '["start",5,[1]]\n["step",0]\n["step",0]\n["write",0,3,1,4]\n["commit",0]\n'
+    opening = '{"limits":[6,100,1],"accounts":[],"procedures":[[1,[["look",0,3,1,44]]]]}\n'
+    sgt.expect("script", "--explain", given=opening + events, out="started 0\nread 3/1 none\nended\nnot ended\nrefused 44 fell none\n",
+               err=f"line 5: {raises}\nline 6: procedure 5 aborted 0 with code 44\n")
+    events = '["start",5,[1]]\n["step",0]\n["write",0,3,1,4]\n["commit",0]\n["step",0]\n'
+    sgt.expect("script", "--explain", given=opening.replace(",1]", "]", 1) + events, out="started 0\nread 3/1 none\nnot ended\nnot ended\naborted asked 44 fell none\n",
+               err=f"line 4: {raises}\nline 5: {raises}\nline 6: procedure 5 aborted 0 with code 44\n")
 
 
 def says_why_events_are_refused(sgt):
@@ -863,7 +928,10 @@ def explains_drawn_scripts(sgt):
         same(f"script {seed}: standard error and status", ("", 0), (reported, status))
         reported = explained.explanation(given, wrote)
         try:
-            sgt.expect("script", "--explain", given=given, out=wrote, err=reported)
+            # The replies alone do not say whether a procedure has another step or raises a code.
+            came = sgt.run("script", "--explain", given=given)
+            same("standard output and status", (0, wrote), came[:2])
+            same("standard error", reported, re.sub(r"(the procedure of \d+) raises a code: .*", r"\1 has not ended: it has another step", came[2]))
         except Differs as why:
             raise Differs(f"script {seed}: {why}") from None
         edges += reported.count(", which ")
@@ -1426,13 +1494,14 @@ def reports_a_full_disk(sgt):
     for words, given in ((["script"], OPENING + EVENTS), (["bank"], OPENING + JOB), (["script", "--records"], OPENING), (["bank", "--records"], OPENING + JOB), (["check"], HISTORY), (["check", "--graph"], HISTORY), (["check", "--timeline"], HISTORY), (["--help"], ""), (["--version"], ""), (["version"], "")):
         with open("/dev/full", "w", encoding="ascii") as full:
             status, _, reported = sgt.run(*words, given=given, out=full)
-        full = "writing failed\n" + ("no space is left where standard output goes\n" if words[0] in ("script", "bank", "check") else "")
+        full = "writing failed\nno space is left where standard output goes\n"
         same(f"{words}: standard error", full, reported)
         same(f"{words}: status", 2, status)
 
 
 def ends_in_silence_if_nobody_reads(sgt):
-    for words, given in ((["script"], OPENING + EVENTS), (["bank"], OPENING + JOB), (["check"], HISTORY), (["check", "--graph"], HISTORY), (["check", "--timeline"], HISTORY)):
+    for words, given in ((["script"], OPENING + EVENTS), (["bank"], OPENING + JOB), (["check"], HISTORY), (["check", "--graph"], HISTORY), (["check", "--timeline"], HISTORY),
+                         (["help"], ""), (["--help"], ""), (["check", "--help"], ""), (["version"], ""), (["--version"], "")):
         reader, writer = os.pipe()
         os.close(reader)
         status, _, reported = sgt.run(*words, given=given, out=writer)
@@ -1493,6 +1562,9 @@ CASES = [
     says_what_codes_mean,
     takes_words_for_codes,
     says_which_words_are_of_no_procedure,
+    says_which_words_are_of_no_code,
+    says_what_is_wrong_with_words,
+    says_that_a_procedure_raises_a_code,
     says_why_events_are_refused,
     says_for_whom_a_commit_waits,
     says_on_which_values_a_code_may_rest,

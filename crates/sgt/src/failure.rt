@@ -161,6 +161,7 @@ pub(crate) fn check_failure<R: Files, S: Source>(
 /// The failure of a check of what clients saw, which read from this source: from a file, or from standard input.
 pub(crate) fn clients_failure<R: Files, S: Source>(
     rt: &R,
+    alloc: Global,
     source: &Remembering<S>,
     file: Option<&str>,
     fault: ClientsFault,
@@ -170,29 +171,50 @@ pub(crate) fn clients_failure<R: Files, S: Source>(
             ClientsFault::Entry(line, entry, flaw),
             Detail::Entry(hint),
         ),
-        other => unhinted_failure(rt, source, file, other),
+        other => unhinted_failure(rt, alloc, source, file, other),
     }
 }
 
 /// The same of an error that has no hint.
 fn unhinted_failure<R: Files, S: Source>(
     rt: &R,
+    alloc: Global,
     source: &Remembering<S>,
     file: Option<&str>,
     fault: ClientsFault,
 ) -> Failure<ClientsFault> {
     let detail = match &fault {
         ClientsFault::Check(CheckFault::Reading) => unread_detail(rt, file),
-        ClientsFault::Entry(line, _, Flaw::NotJson(column)) => {
-            let words = match source.line(*line) {
-                Some(line) => json_hint(line, *column),
-                None => None,
-            };
-            words_or_nothing(words)
-        }
+        ClientsFault::Entry(line, _, Flaw::NotJson(column)) => match source.line(*line) {
+            Some(line) => not_json_detail(alloc, line, *column),
+            None => Detail::Nothing,
+        },
         other => words_or_nothing(words_about(other)),
     };
     Failure::Fault(fault, detail)
+}
+
+/// What is said about a line of what clients saw that is not JSON from this column on.
+fn not_json_detail(alloc: Global, line: &[u8], column: usize) -> Detail {
+    if let Some(words) = json_hint(line, column) {
+        return Detail::Words(words);
+    }
+    let Some(text) = explained(alloc, Command::Script, Some(line), &Fault::NotJson(2)) else {
+        return Detail::Nothing;
+    };
+    let Ok(place) = format!(in alloc; "column {column}") else {
+        return Detail::Nothing;
+    };
+    let is_object = line.trim_ascii_start().starts_with(b"{");
+    match text.as_str().split_once(": not JSON from here: ") {
+        Some((before, words)) if is_object && before == place.as_str() => {
+            match String::from_str(alloc, words) {
+                Ok(words) => Detail::Text(words),
+                Err(_) => Detail::Nothing,
+            }
+        }
+        _ => Detail::Nothing,
+    }
 }
 
 /// What is said about an error of what clients saw, whatever its input is.
@@ -203,6 +225,7 @@ fn words_about(fault: &ClientsFault) -> Option<&'static str> {
             "an entry of a transaction has \"f\":\"txn\", or no f",
         ),
         ClientsFault::Twice(..) => Some(APPENDED_ONCE),
+        ClientsFault::Early(..) => Some(INVOKED_FIRST),
         ClientsFault::Entry(_, _, Flaw::OtherOperations(..)) => Some(SAME_OPERATIONS),
         ClientsFault::NoOperations
         | ClientsFault::Entry(_, _, Flaw::NoObject | Flaw::Value | Flaw::Operation(_)) => Some(
@@ -215,6 +238,10 @@ fn words_about(fault: &ClientsFault) -> Option<&'static str> {
 /// What holds of the values that clients append.
 const APPENDED_ONCE: &str =
     "each append to a key has a value of its own, as from a counter: else a read does not say which one it saw";
+
+/// What holds of the order of the entries of a process.
+const INVOKED_FIRST: &str =
+    "the first of them is an end without an invocation, and the second one the invoke of its process: an invoke stands before its end";
 
 /// What holds of the end of a transaction of a client.
 const SAME_OPERATIONS: &str =
@@ -235,9 +262,10 @@ fn json_hint(line: &[u8], column: usize) -> Option<&'static str> {
     match line.get(index)? {
         b'\'' => Some("a text stands in double quotes in JSON"),
         b'N' | b'T' | b'F' => Some("JSON has null, true and false, in small letters"),
-        b'a'..=b'z' if !is_torn(rest) => Some(
-            "a word stands in double quotes in JSON, but for null, true and false",
+        b'a'..=b'z' if is_torn(rest) => Some(
+            "the line ends inside null, true or false, or goes on with another entry: was it cut off?",
         ),
+        b'a'..=b'z' => Some("a word stands in double quotes in JSON, but for null, true and false"),
         b'(' => Some("a list stands in square brackets in JSON"),
         b'/' | b'#' => Some("JSON has no comments"),
         b'.' | b'+' | b'-' | b'0' if is_odd_number(rest) => Some(
@@ -246,7 +274,9 @@ fn json_hint(line: &[u8], column: usize) -> Option<&'static str> {
         b':' if before.ends_with(b"{") => Some(
             "this entry is EDN, and the first one is JSON: an input has one of them",
         ),
-        b']' | b'}' if before.ends_with(b",") => Some("nothing stands after the comma in JSON"),
+        b']' | b'}' if before.ends_with(b",") => Some(
+            "an item is missing after the comma, or the comma is too many: JSON has none before a bracket that closes",
+        ),
         _ => None,
     }
 }

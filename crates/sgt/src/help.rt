@@ -66,8 +66,8 @@ them is an event and gets one line of reply. The committed database comes last.
               has ended: an access of 1 conflicts with a later one of this transaction
   quit        aborts it
   begin       starts the empty procedure, 65535: the caller decides each access
-  read        a read on which the caller decides, once the procedure has ended: the transaction, a
-              table and a number in it
+  read        a read on which the caller decides, once the procedure has ended without a code: the
+              transaction, a table and a number in it
   write       a write of the value that comes last
   remove      a write that removes the record: --explain says that it wrote
   cut         ends this part of the history, if no transaction is live: transactions are numbered
@@ -86,8 +86,8 @@ The replies to these lines:
   committed none
   cut 9
 
-Here 0/1 is record 1 of table 0, and 9 events were answered since line 1. A transaction is named by
-the number in the reply to its start. A start that is refused takes no number.
+Here 0/1 is record 1 of table 0, and 9 events were answered since line 1, or since the cut before.
+A transaction is named by the number in the reply to its start. A start that is refused takes none.
 
 With --explain, standard error says after each abort which accesses make the edges of the cycle, or
 which procedure raised a code, and which reads made other transactions abort in cascade. It says why
@@ -132,7 +132,8 @@ pub(crate) const BANK_HELP: &str =
     r#"Line 1 and the record lines after it are as in a script. If line 1 is too short for the accounts,
 write them as record lines of tables 0, 1 and 2, as --json ends with: to go on from those of a run,
 leave the accounts of line 1 empty. Each later line is a job: one call of a procedure. The workers
-take the jobs in turn and run them at the same time, each as a transaction of its own. A job that a
+take the jobs in turn and run them at the same time, each as a transaction of its own: in no fixed
+order, but with --workers 1. More workers gain little, since each call holds one lock. A job that a
 conflict aborts is tried again. The output has a line for each job, numbered from 0, and then the
 committed database:
 
@@ -162,8 +163,9 @@ gives
 
 With a third limit of 1, as in [32,1000,1], each code is the code of the serial run, as answers are:
 run one after another in the order of 'event' (--json), the committed and the asked jobs give the
-same answers and codes. If you act on codes, set the third limit to 1. Otherwise a code may rest on
-a value that another job wrote and that was undone later.
+same answers and codes. If you act on codes, set the third limit to 1. Otherwise a code counts when
+it is raised: it may rest on a value of another job that is undone later, or that commits later, and
+so after this job in the order of 'event'.
 
 All jobs are read before the first one runs, at most 1000000. If a line is bad, it is reported with
 what was expected, and no job runs. A line has at most 65536 bytes, the input 16777216, or what
@@ -245,8 +247,8 @@ first two operations that do. The edges of the cycle are red:
 With --timeline the output is a picture of the history in SVG: a row for each transaction, its
 operations from left to right, arrows from writes to the reads that read from them, and the report
 below. The conflicts of the cycle are red, and the first violation of each other class is orange. If
-there are more than 60 operations, it draws those of the transactions involved; with --all only if
-there are more than 400.
+there are more than 60 operations, it draws those of the transactions involved; with --all, and
+without a violation, only if there are more than 400.
 
 With --model list-append the history is what the clients of a database saw. Their transactions
 append unique values to lists and read lists. The input has objects of JSON, as Jepsen writes them,
@@ -263,7 +265,8 @@ Such an entry in EDN, if all are: {:type :ok, :process 1, :f :txn, :value [[:r 9
               fail: it aborted. info, or no end: unknown
   process     a whole number or a text; each process runs one transaction at a time
   f           txn. Objects with another f are of no transaction: they are skipped, and counted
-  value       append key value, read (r) key list. A key is a whole number, or a text like an item.
+  value       append key value, read (r) key list; null (in EDN nil) where the list is not known, as
+              in an invoke, or empty. A key is a whole number, or a text like an item.
               A value is a whole number of at most 15 digits, and appended once to its key
 
 Transactions are t1, t2, .. in the order in which they begin. After a transaction, the report names
@@ -285,8 +288,8 @@ With --strict the order also keeps real time: if one transaction ended before an
 comes first. Time is the order of the objects. With --json the report is one object of JSON. --graph
 and --timeline show the cycle. If the objects are not one a line, 'entry 3' in place of 'line 3'
 names the third object. After the strongest level comes what breaks the next one, unless the lines
-before say it; with --strict, whether strong and session snapshot isolation hold; and how often each
-anomaly was seen, with its first example.
+before say it; with --strict, whether strong and session snapshot isolation hold; and how many reads
+were wrong, and how many updates lost, with the first of each kind.
 
 The status is 0 if the history is serializable and recoverable (list-append: serializable, or of the
 level that --level names), 1 if not, 2 after an error, and 3 if --level's answer is undecided. The

@@ -16,6 +16,7 @@
 #![tactic(auto)]
 
 mod advice;
+mod codes;
 mod ended_error;
 mod failure;
 mod help;
@@ -37,11 +38,12 @@ use help::{BANK_HELP, CHECK_HELP, HELP, SCRIPT_HELP};
 use input::{FILE, named_file, open_input};
 use input_kind::{comment_of, kind_of};
 use number_error::number_error;
-use output::OutputBytes;
+use output::{OutputBytes, write_failure};
 use sgt_bank::{Explanations, MOST_TRIES, MOST_WORKERS, run_bank};
 use sgt_check::{CheckFault, Verdict, run_check};
 use sgt_clients::{
-    Answer, ClientsFault, ClientsOutput, Flaw as EntryFlaw, Hint, Level, Question, run_clients,
+    Answer, ClientsFault, ClientsOutput, Flaw as EntryFlaw, Hint, Level, Notes, Question,
+    run_clients,
 };
 use sgt_input::{DEFAULT_BYTES, Fault, MOST_BYTES, Reader, Sink, Source, Writer};
 use sgt_line_errors::Remembering;
@@ -57,7 +59,7 @@ use std::sync::Wait;
 use std::thread::Threads;
 use std::time::Clock;
 use unjudged::active_ones;
-use words::{GivenWords, NoProcedure, WORDS, read_words};
+use words::{GivenWords, Unsaid, WORDS, read_words};
 
 const VERSION: &str = "0.1.0";
 
@@ -461,7 +463,7 @@ fn script<R: Print + Eprint + Files + Clock, I: Read + Drop>(
         &mut line,
     ) {
         Ok(()) => {
-            warn_of_words(rt, given.missing(alloc, bytes_of(&line)));
+            warn_of_words(rt, given.unsaid(alloc, bytes_of(&line)));
             Ok(())
         }
         Err(Fault::Writing) => Err(writer.inner.failure(Fault::Writing)),
@@ -488,10 +490,10 @@ fn bytes_of(line: &Option<Vec<u8>>) -> Option<&[u8]> {
     }
 }
 
-/// Says on standard error that words were given to a procedure that is not there.
-fn warn_of_words<R: Eprint>(rt: &R, missing: Option<NoProcedure<'_>>) {
-    if let Some(missing) = missing {
-        report(rt, missing);
+/// Says on standard error that words were given to a procedure or a code that is not there.
+fn warn_of_words<R: Eprint>(rt: &R, unsaid: Option<Unsaid<'_>>) {
+    if let Some(unsaid) = unsaid {
+        report(rt, unsaid);
     }
 }
 
@@ -571,7 +573,7 @@ fn bank<R: Print + Eprint + Files + Clock + Threads + Wait + Sync, I: Read + Dro
         &mut line,
     ) {
         Ok(()) => {
-            warn_of_words(rt, given.missing(alloc, bytes_of(&line)));
+            warn_of_words(rt, given.unsaid(alloc, bytes_of(&line)));
             Ok(())
         }
         Err(Fault::Writing) => Err(writer.inner.failure(Fault::Writing)),
@@ -645,19 +647,28 @@ fn check_clients<R: Print + Eprint + Files, I: Read + Drop>(
     let mut source = Remembering::new(alloc, Reader::new(input));
     let mut writer = Writer::new(OutputBytes::new(io::writer(rt)));
     let output = clients_output(options);
-    match run_clients(alloc, &mut source, &mut writer, output, question) {
-        Ok(answer) => answered(answer),
+    let mut notes = Notes::none();
+    match run_clients(
+        alloc,
+        &mut source,
+        &mut writer,
+        output,
+        question,
+        &mut notes,
+    ) {
+        Ok(answer) => answered(rt, output, notes, answer),
         Err(ClientsFault::Check(CheckFault::Writing)) => failed(
             rt,
             writer.inner.failure(CheckFault::Writing),
         ),
-        Err(fault) => clients_failed(rt, &source, named_file(options), fault),
+        Err(fault) => clients_failed(rt, alloc, &source, named_file(options), fault),
     }
 }
 
 /// Reports why what clients saw could not be checked, and returns the exit status.
 fn clients_failed<R: Eprint + Files, S: Source>(
     rt: &R,
+    alloc: Global,
     source: &Remembering<S>,
     file: Option<&str>,
     fault: ClientsFault,
@@ -670,7 +681,7 @@ fn clients_failed<R: Eprint + Files, S: Source>(
             return report_hint(rt, fault, hint);
         }
     }
-    failed(rt, clients_failure(rt, source, file, fault))
+    failed(rt, clients_failure(rt, alloc, source, file, fault))
 }
 
 /// What the options ask of what clients saw: by default whether it is serializable, or strictly so.
@@ -752,8 +763,13 @@ fn run<R: Print + Eprint + Input + Files + Clock + Threads + Wait + Sync>(
 fn print_version<R: Print + Eprint>(rt: &R) -> ExitCode {
     match println!(rt; "sgt {VERSION}") {
         Ok(()) => ExitCode::SUCCESS,
-        Err(_) => report(rt, Fault::Writing),
+        Err(error) => unwritten(rt, error.kind()),
     }
+}
+
+/// Reports that a text for standard output could not be written, if somebody reads it, and returns the exit status.
+fn unwritten<R: Eprint>(rt: &R, kind: io::ErrorKind) -> ExitCode {
+    failed(rt, write_failure(Some(kind), Fault::Writing))
 }
 
 /// Runs the subcommand with this name on the input, which has so many bytes if that is known, and returns the exit
@@ -796,8 +812,11 @@ fn judged<R: Eprint>(rt: &R, options: &ArgMatches<'_>, verdict: Verdict) -> Exit
     }
 }
 
-/// The exit status of an answer.
-fn answered(answer: Answer) -> ExitCode {
+/// The exit status of an answer. After a report, standard error says what was taken for something else.
+fn answered<R: Eprint>(rt: &R, output: ClientsOutput, notes: Notes, answer: Answer) -> ExitCode {
+    if output == ClientsOutput::Report && !notes.is_none() {
+        report(rt, notes);
+    }
     match answer {
         Answer::Yes => ExitCode::SUCCESS,
         Answer::No => ExitCode::from(1),
@@ -846,10 +865,10 @@ fn refuse<R: Print + Eprint>(rt: &R, alloc: Global, error: &clap::Error) -> Exit
     if let Some(text) = number_error(alloc, error) {
         return report(rt, text.as_str().trim_end());
     }
-    if error.print(rt).is_err() {
-        return report(rt, Fault::Writing);
+    match error.print(rt) {
+        Ok(()) => ExitCode::from(error.exit_code() as u8),
+        Err(error) => unwritten(rt, error.kind()),
     }
-    ExitCode::from(error.exit_code() as u8)
 }
 
 /// Whether these arguments of a bank name threads.

@@ -23,14 +23,19 @@ impl<W: Write + Drop> OutputBytes<W> {
 
     /// The failure of a run that ended with this fault because a write failed.
     pub(crate) fn failure<F: Display + Drop>(&self, fault: F) -> Failure<F> {
-        match self.failed {
-            Some(ErrorKind::BrokenPipe) => Failure::Unread,
-            Some(ErrorKind::StorageFull) => Failure::Fault(
-                fault,
-                Detail::Words("no space is left where standard output goes"),
-            ),
-            _ => Failure::Fault(fault, Detail::Nothing),
-        }
+        write_failure(self.failed, fault)
+    }
+}
+
+/// The failure of a run that ended with this fault because a write failed for this reason.
+pub(crate) fn write_failure<F: Display + Drop>(kind: Option<ErrorKind>, fault: F) -> Failure<F> {
+    match kind {
+        Some(ErrorKind::BrokenPipe) => Failure::Unread,
+        Some(ErrorKind::StorageFull) => Failure::Fault(
+            fault,
+            Detail::Words("no space is left where standard output goes"),
+        ),
+        _ => Failure::Fault(fault, Detail::Nothing),
     }
 }
 

@@ -1,14 +1,16 @@
 //! The file of `--words`: what codes mean.
 
+use crate::codes::{Named, OVERFLOW, codes_of, rank};
 use crate::input::{FileFlaw, open_file};
 use serde_json::Value;
 use sgt_check::{CheckFault, read_input};
 use sgt_explain::Words;
 use sgt_format::{items, read_tree};
-use sgt_input::Reader;
-use sgt_model::{EMPTY_PROCEDURE, NoMemory};
-use sgt_smallbank::PROCEDURES;
-use std::alloc::{AllocError, Global};
+use sgt_input::{Fault, Reader};
+use sgt_line_errors::{Command, diagnose};
+use sgt_model::NoMemory;
+use sgt_notation::Shown;
+use std::alloc::{AllocError, AllocFailed, Global};
 use std::fmt::{self, Display, Formatter};
 use std::rt::Files;
 
@@ -50,11 +52,19 @@ impl From<NoMemory> for WordsFlaw {
     }
 }
 
+impl<T: Drop> From<AllocFailed<T>> for WordsFlaw {
+    fn from(_: AllocFailed<T>) -> Self {
+        WordsFlaw::NoMemory
+    }
+}
+
 /// A file of words that is not read.
 #[derive(Debug, Drop)]
 pub(crate) struct WordsFault<'a> {
     name: &'a str,
     flaw: WordsFlaw,
+    /// What is wrong with its line, for a second line.
+    detail: Option<String>,
 }
 
 impl Display for WordsFault<'_> {
@@ -75,15 +85,12 @@ impl Display for WordsFault<'_> {
                 "line {line}: code {code} of procedure {procedure} has words already"
             ),
             WordsFlaw::NoMemory => f.write_str("no memory"),
+        }?;
+        match &self.detail {
+            Some(detail) => write!(f, "\n{detail}"),
+            None => Ok(()),
         }
     }
-}
-
-/// A procedure to which a line of a file gives words.
-#[derive(Clone, Copy)]
-struct Named {
-    line: usize,
-    procedure: u16,
 }
 
 /// The words of a run, which a file may have given.
@@ -92,55 +99,93 @@ pub(crate) struct GivenWords<'a> {
     pub words: Words,
     /// The name of the file.
     name: &'a str,
-    /// The highest procedure that the file names. None if it names none.
-    highest: Option<Named>,
+    /// The codes that the file names, in the order of its lines.
+    named: Vec<Named>,
 }
 
-/// A procedure that a file of words names, and that is not there.
+/// Words of a file that a run never says.
 #[derive(Drop)]
-pub(crate) struct NoProcedure<'a> {
+pub(crate) struct Unsaid<'a> {
     name: &'a str,
-    line: usize,
-    procedure: u16,
+    named: Named,
+    /// The codes of the procedure. None if it is not there.
+    codes: Option<Vec<u16>>,
 }
 
-impl Display for NoProcedure<'_> {
+impl Display for Unsaid<'_> {
     fn fmt<W: fmt::Write>(&self, f: &mut Formatter<W>) -> fmt::Result {
-        let (line, procedure) = (self.line, self.procedure);
+        let Named {
+            line,
+            procedure,
+            code,
+        } = self.named;
         f.write_str(self.name)?;
-        write!(f, ": line {line}: there is no procedure {procedure}")
+        let Some(codes) = &self.codes else {
+            return write!(f, ": line {line}: there is no procedure {procedure}");
+        };
+        write!(
+            f,
+            ": line {line}: procedure {procedure} never aborts with code {code}"
+        )?;
+        write_codes(f, codes.as_slice())
     }
+}
+
+/// Writes these codes in ascending order, if there are any.
+fn write_codes<W: fmt::Write>(f: &mut Formatter<W>, codes: &[u16]) -> fmt::Result {
+    let mut before = "; its codes are ";
+    for code in 1..OVERFLOW.saturating_add(1) {
+        if codes.contains(&code) {
+            write!(f, "{before}{code}")?;
+            before = ", ";
+        }
+    }
+    Ok(())
 }
 
 impl<'a> GivenWords<'a> {
-    /// The highest procedure that the file names, if it is not there in a run with this line 1.
-    pub(crate) fn missing(&self, alloc: Global, line: Option<&[u8]>) -> Option<NoProcedure<'a>> {
-        let Named {
-            line: number,
-            procedure,
-        } = self.highest?;
+    /// The first words of the file that a run with this line 1 never says: those of the highest procedure that is not
+    /// there, else those of a code that its procedure does not have. None if memory ran out.
+    pub(crate) fn unsaid(&self, alloc: Global, line: Option<&[u8]>) -> Option<Unsaid<'a>> {
+        let highest = self.highest()?;
         let tree = read_tree(alloc, line?).ok()??;
-        let count = items(tree.get("procedures")?)?.len();
-        if usize::from(procedure) < count.saturating_add(usize::from(PROCEDURES)) {
-            return None;
+        let procedures = items(tree.get("procedures")?)?;
+        if codes_of(alloc, procedures, highest.procedure)?.is_none() {
+            return Some(Unsaid {
+                name: self.name,
+                named: highest,
+                codes: None,
+            });
         }
-        Some(NoProcedure {
-            name: self.name,
-            line: number,
-            procedure,
-        })
+        for named in &self.named {
+            let codes = codes_of(alloc, procedures, named.procedure)??;
+            if !codes.as_slice().contains(&named.code) {
+                return Some(Unsaid {
+                    name: self.name,
+                    named: *named,
+                    codes: Some(codes),
+                });
+            }
+        }
+        None
     }
 
-    /// Adds the words of this line, which has this number. The empty procedure is always there.
-    fn add_line(&mut self, alloc: Global, line: usize, bytes: &[u8]) -> Result<(), WordsFlaw> {
-        let procedure = add_meaning(alloc, &mut self.words, line, bytes)?;
-        let is_higher = match self.highest {
-            Some(highest) => highest.procedure < procedure,
-            None => true,
-        };
-        if is_higher && procedure != EMPTY_PROCEDURE {
-            self.highest = Some(Named { line, procedure });
+    /// The first line with the highest procedure that the file names. The empty procedure, which is always there, is the
+    /// lowest one.
+    fn highest(&self) -> Option<Named> {
+        let mut highest = *self.named.first()?;
+        for named in &self.named {
+            if rank(highest) < rank(*named) {
+                highest = *named;
+            }
         }
+        Some(highest)
+    }
+
+    /// Adds the words of this line, which has this number.
+    fn add_line(&mut self, alloc: Global, line: usize, bytes: &[u8]) -> Result<(), WordsFlaw> {
+        let named = add_meaning(alloc, &mut self.words, line, bytes)?;
+        self.named.push(named)?;
         Ok(())
     }
 
@@ -178,43 +223,132 @@ pub(crate) fn read_words<'a, R: Files>(
     let mut given = GivenWords {
         words: Words::new(alloc),
         name: name.unwrap_or(""),
-        highest: None,
+        named: Vec::new(alloc),
     };
     let Some(name) = name else {
         return Ok(given);
     };
-    match add_file(rt, alloc, &mut given, name) {
+    let text = match text_of(rt, alloc, name) {
+        Ok(text) => text,
+        Err(flaw) => {
+            return Err(WordsFault {
+                name,
+                flaw,
+                detail: None,
+            });
+        }
+    };
+    match given.add_lines(alloc, text.as_slice()) {
         Ok(()) => Ok(given),
-        Err(flaw) => Err(WordsFault { name, flaw }),
+        Err(flaw) => Err(WordsFault {
+            name,
+            flaw,
+            detail: detail_of(alloc, text.as_slice(), flaw),
+        }),
     }
 }
 
-/// Adds the words of this file.
-fn add_file<R: Files>(
-    rt: &R,
-    alloc: Global,
-    given: &mut GivenWords<'_>,
-    name: &str,
-) -> Result<(), WordsFlaw> {
+/// The bytes of the file with this name.
+fn text_of<R: Files>(rt: &R, alloc: Global, name: &str) -> Result<Vec<u8>, WordsFlaw> {
     let file = match open_file(rt, name) {
         Ok(file) => file,
         Err(flaw) => return Err(WordsFlaw::File(flaw)),
     };
     match read_input(alloc, &mut Reader::new(file)) {
-        Ok(text) => given.add_lines(alloc, text.as_slice()),
+        Ok(text) => Ok(text),
         Err(CheckFault::TooLong) => Err(WordsFlaw::TooLong),
         Err(CheckFault::NoMemory) => Err(WordsFlaw::NoMemory),
         Err(_) => Err(WordsFlaw::Reading),
     }
 }
 
-/// Adds the words of this line, which has this number, and returns to which procedure.
+/// What is wrong with the line of a file that has this flaw, if it is about a line, and if memory did not run out.
+fn detail_of(alloc: Global, text: &[u8], flaw: WordsFlaw) -> Option<String> {
+    let WordsFlaw::BadLine(number) = flaw else {
+        return None;
+    };
+    let line = line_of(text, number);
+    match read_tree(alloc, line) {
+        Ok(Some(tree)) => shape_words(alloc, &tree),
+        Ok(None) => match diagnose(alloc, &Fault::NotJson(2), Command::Script, line) {
+            Ok(words) => words,
+            Err(_) => None,
+        },
+        Err(_) => None,
+    }
+}
+
+/// The line of this number, from 1.
+fn line_of(text: &[u8], number: usize) -> &[u8] {
+    let mut line = 1usize;
+    let mut start = 0usize;
+    for at in 0..text.len() {
+        if text[at] == b'\n' {
+            if line == number {
+                return text.get(start..at).unwrap_or(b"");
+            }
+            line = line.saturating_add(1);
+            start = at.saturating_add(1);
+        }
+    }
+    text.get(start..).unwrap_or(b"")
+}
+
+/// What is wrong with a line that is JSON, and gives no code words.
+fn shape_words(alloc: Global, tree: &Value) -> Option<String> {
+    let Some([procedure, code, said]) = items(tree) else {
+        return found(alloc, "found ", tree);
+    };
+    if number(procedure).is_none() {
+        return found(
+            alloc,
+            "a procedure is a number from 0 to 65535, found ",
+            procedure,
+        );
+    }
+    if number(code).is_none() {
+        return found(alloc, "a code is a number from 0 to 65535, found ", code);
+    }
+    let Some(text) = said.as_str() else {
+        return found(alloc, "the words are a text in double quotes, found ", said);
+    };
+    let words = if text.is_empty() || text.len() > LONGEST {
+        "the words are empty, or longer than 200 bytes"
+    } else {
+        "the words have a tab, a newline or another control character"
+    };
+    match format!(in alloc; "{words}") {
+        Ok(words) => Some(words),
+        Err(_) => None,
+    }
+}
+
+/// These words, and the start of a tree.
+fn found(alloc: Global, words: &str, tree: &Value) -> Option<String> {
+    let Ok(text) = tree.to_string(alloc) else {
+        return None;
+    };
+    let Ok(shown) = Shown::of(alloc, text.as_str().as_bytes()) else {
+        return None;
+    };
+    let rest = if text.as_str().len() > shown.text.len() {
+        ".."
+    } else {
+        ""
+    };
+    match format!(in alloc; "{words}{shown}{rest}") {
+        Ok(words) => Some(words),
+        Err(_) => None,
+    }
+}
+
+/// Adds the words of this line, which has this number, and returns to which code.
 fn add_meaning(
     alloc: Global,
     words: &mut Words,
     line: usize,
     bytes: &[u8],
-) -> Result<u16, WordsFlaw> {
+) -> Result<Named, WordsFlaw> {
     let Some(tree) = read_tree(alloc, bytes)? else {
         return Err(WordsFlaw::BadLine(line));
     };
@@ -225,7 +359,11 @@ fn add_meaning(
         return Err(WordsFlaw::Twice(line, procedure, code));
     }
     words.add(procedure, code, String::from_str(alloc, said)?)?;
-    Ok(procedure)
+    Ok(Named {
+        line,
+        procedure,
+        code,
+    })
 }
 
 /// The procedure, the code and the words of a tree.

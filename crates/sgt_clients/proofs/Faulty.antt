@@ -15,6 +15,7 @@ own_fault (Some bytes) (fault.Entry line entry flaw) own = tt
 own_fault (Some bytes) (fault.Hinted line entry flaw hint) own = tt
 own_fault (Some bytes) (fault.Twice second value key first) own = tt
 own_fault (Some bytes) (fault.Unasked second value key first) own = tt
+own_fault (Some bytes) (fault.Early second value key first) own = tt
 own_fault (Some bytes) fault.NoOperations own = tt
 own_fault (Some bytes) (fault.OnlySkipped count) own = tt
 own_fault (Some bytes) fault.NoInvocations own = tt

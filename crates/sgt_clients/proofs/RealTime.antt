@@ -5,7 +5,7 @@ use Rattle.std.proofs.lemmas.Bool.{cases_eq}
 use Rattle.sgt_appends.specs.declared.transaction.Transaction.{Transaction}
 use Rattle.sgt_appends.specs.Lists.{Has, IsOnce, StandsBefore}
 use Rattle.sgt_appends.specs.Precedences.{AppendsOnce}
-use Rattle.sgt_appends.proofs.Words.{Has-append_cases, StandsBefore-cases, StandsBefore-has, stand_somehow}
+use Rattle.sgt_appends.proofs.Words.{Has-append_cases, StandsBefore-cases, StandsBefore-has, stand_somehow, last_stands}
 use Rattle.sgt_appends.proofs.Orders.{place_of, here, further, precedes_first}
 use Rattle.sgt_clients.specs.declared.clients.Span.{Span}
 use Rattle.sgt_clients.specs.declared.finding.Why.{Why}
@@ -85,29 +85,6 @@ none_kept spans latest = record {
   later = λ t u stands. absurd (StandsBefore-has [] u t stands).0;
 }
 
--- who stands before another in a list with one more
-stands_one : (xs : List ℕ) (z x y : ℕ) → StandsBefore (xs ++ z ∷ []) x y → StandsBefore xs x y ⊎ (Has xs x × (z ≡ y))
-stands_one [] z x y it = elim (StandsBefore-cases z [] x y it) [
-  | inl w ↦ absurd w.1
-  | inr w ↦ absurd (StandsBefore-has [] x y w).0
-]
-stands_one (w ∷ xs) z x y it = elim (StandsBefore-cases w (xs ++ z ∷ []) x y it) [
-  | inl v ↦ elim (Has-append_cases xs (z ∷ []) y v.1) [
-    | inl there ↦ inl ([], xs, ap (λ n. n ∷ xs) v.0, there)
-    | inr last ↦ inr (inl v.0, is_last y z last)
-  ]
-  | inr v ↦ elim (stands_one xs z x y v) [
-    | inl there ↦ inl (w ∷ there.0, there.1, ap (λ ns. w ∷ ns) there.2, there.3)
-    | inr last ↦ inr (inr last.0, last.1)
-  ]
-]
-  where
-    is_last : (y z : ℕ) → Has (z ∷ []) y → z ≡ y
-    is_last y z has = elim has [
-      | inl e ↦ e
-      | inr none ↦ absurd none
-    ]
-
 same_span : (spans : List Span) (t : ℕ) (s r : Span) → slice_get spans t ≡ Some s → slice_get spans t ≡ Some r → s ≡ r
 same_span spans t s r one other = grind (arith, one, other)
 
@@ -122,7 +99,7 @@ kept_one spans xs t old new kept after = record {
     | inl there ↦ kept.own u there
     | inr last ↦ λ ended. not_before u u ended (is_here u last) (began_here u ended.second last ended.second_is)
   ];
-  later = λ u v stands. elim (stands_one xs t v u stands) [
+  later = λ u v stands. elim (last_stands xs t v u stands) [
     | inl there ↦ kept.later u v there
     | inr last ↦ λ ended. not_before u v ended last.1 (omega (arith, kept.began v ended.second last.0 ended.second_is, after.2))
   ];

@@ -10,6 +10,7 @@ use Rattle.sgt_appends.specs.declared.transaction.Operation.{Operation}
 use Rattle.sgt_appends.specs.declared.transaction.Operation.TheVariants.{Append, Read}
 use Rattle.sgt_appends.specs.declared.transaction.Status.TheVariants.{Committed, Aborted, Unknown}
 use Rattle.sgt_appends.specs.declared.transaction.Transaction.{Transaction}
+pub use Rattle.sgt_check.proofs.Pieces.{grow, grow_number}
 use Rattle.sgt_clients.specs.declared.clients.Clients.{Clients}
 use Rattle.sgt_clients.specs.declared.counts.Counts.{Counts}
 use Rattle.sgt_clients.specs.declared.evidence.Put.{Put}
@@ -18,18 +19,6 @@ use Rattle.sgt_clients.specs.Evidence.{put_of, seen_of}
 use Rattle.sgt_clients.specs.JsonText.{skipped_member}
 use Rattle.sgt_clients.specs.ReportText.{key_text, values_text, read_text, with_value, with_values, has_status}
 use Rattle.sgt_clients.specs.UnseenText.{with_puts}
-
--- a piece after the text so far
-pub grow : (start before after : List ℕ) (came piece : List ℕ) → before ≡ start ++ came → after ≡ before ++ piece
-    → after ≡ start ++ (came ++ piece)
-grow start before after came piece first second = second ∙ ap (λ l. l ++ piece) first ∙ append_assoc start came piece
-
--- words and a number after the text so far
-pub grow_number : (start before after : List ℕ) (came words number : List ℕ) → before ≡ start ++ came
-    → after ≡ (before ++ words) ++ number → after ≡ start ++ ((came ++ words) ++ number)
-grow_number start before after came words number first second =
-    second ∙ ap (λ l. (l ++ words) ++ number) first ∙ ap (λ l. l ++ number) (append_assoc start came words)
-    ∙ append_assoc start (came ++ words) number
 
 -- the texts of one item more
 pub each_next : {X : Type 0} (f : X → List ℕ) (xs : List X) (i : ℕ) (d : X) → i < length xs

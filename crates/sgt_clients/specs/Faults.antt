@@ -10,6 +10,7 @@ IsOwn (fault.Entry line entry flaw) = ⊤
 IsOwn (fault.Hinted line entry flaw hint) = ⊤
 IsOwn (fault.Twice second value key first) = ⊤
 IsOwn (fault.Unasked second value key first) = ⊤
+IsOwn (fault.Early second value key first) = ⊤
 IsOwn fault.NoOperations = ⊤
 IsOwn (fault.OnlySkipped count) = ⊤
 IsOwn fault.NoInvocations = ⊤

@@ -14,6 +14,7 @@ ghost use Rattle.sgt_clients.specs.Faults.{IsOwn};
 use crate::access::{Access, are_same};
 use crate::entry::{Entry, Kind, read_entry};
 use crate::fault::{ClientsFault, Flaw, ReadError};
+use crate::notes::nulls_in;
 use crate::pieces::{Place, next_object, object_end};
 use crate::twice::shown_name;
 use serde_json::Value;
@@ -65,6 +66,8 @@ pub struct Clients {
     pub invoked: bool,
     /// The transactions without an invocation. No contract speaks of them.
     pub alone: Vec<Alone>,
+    /// How many reads of transactions that committed are null. No contract speaks of it.
+    pub nulls: usize,
     /// How many entries were skipped, since they are of no transaction.
     pub skipped: usize,
     /// The texts of the keys, by number.
@@ -96,6 +99,7 @@ pub fn read_clients(alloc: Global, text: &[u8]) -> Result<Clients, ClientsFault>
         events: reader.events,
         invoked: reader.invoked,
         alone: reader.alone,
+        nulls: reader.nulls,
         skipped: reader.skipped,
         by_line: reader.by_line,
         keys: reader.keys.texts,
@@ -127,6 +131,8 @@ struct ClientsReader {
     invoked: bool,
     /// The transactions without one.
     alone: Vec<Alone>,
+    /// How many reads of transactions that committed are null.
+    nulls: usize,
     /// The line on which each transaction began.
     lines: Vec<u64>,
     /// The line on which the last entry started.
@@ -157,6 +163,7 @@ impl ClientsReader {
             active: BTreeMap::new(alloc),
             invoked: false,
             alone: Vec::new(alloc),
+            nulls: 0,
             lines: Vec::new(alloc),
             line: 1,
             entries: 0,
@@ -250,7 +257,10 @@ impl ClientsReader {
     {
         let tree = read_tree(alloc, text)?;
         match read_entry(alloc, &mut self.keys, &mut self.processes, &tree)? {
-            Some(entry) => self.take_entry(entry),
+            Some(entry) => {
+                self.nulls = self.nulls.saturating_add(nulls_in(&tree, entry.kind));
+                self.take_entry(entry)
+            }
             None => {
                 self.skip();
                 Ok(())

@@ -5,6 +5,8 @@ ghost use Rattle.sgt_clients.specs.Objects.{is_between};
 
 use crate::breaks::{Bracket, Break, FoundBreak, Spot, first_break};
 use crate::fault::{ClientsFault, Flaw};
+use crate::found::found_hint;
+use crate::glued::glued_at;
 use crate::hint::Hint;
 use crate::pieces::{Place, next_object, object_end};
 use serde_json::Value;
@@ -84,10 +86,59 @@ fn explained_entry(
     } else {
         edn_index(alloc, input, in_json)?
     };
-    match first_break(alloc, input, !is_json, last_at(input, at))? {
-        Some(found) => Ok(Some(of_break(found))),
-        None if is_broken => Ok(Some(of_place(input, entry, at, at == object.start))),
-        None => Ok(None),
+    let found = match first_break(alloc, input, !is_json, last_at(input, at))? {
+        Some(found) => of_break(found),
+        None if is_broken => of_place(input, entry, at, at == object.start),
+        None => return Ok(None),
+    };
+    if is_mixed(alloc, input, object)? {
+        return Ok(Some(hinted(&found, Hint::JsonEntry)));
+    }
+    Ok(Some(with_glued(input, found)))
+}
+
+/// Whether the object of a text in JSON is an entry in JSON of an input in EDN.
+fn is_mixed(alloc: Global, input: &[u8], object: Object) -> Result<bool, NoMemory> {
+    if !is_edn(input) {
+        return Ok(false);
+    }
+    let start = edn_index(alloc, input, object.start)?;
+    Ok(starts_json(input.get(start..).unwrap_or(b"")))
+}
+
+/// Whether an object in JSON starts here: a brace, a text, and a colon.
+fn starts_json(text: &[u8]) -> bool {
+    let [b'{', rest @ ..] = text else {
+        return false;
+    };
+    let [b'"', name @ ..] = rest.trim_ascii_start() else {
+        return false;
+    };
+    for at in 0..name.len() {
+        if name[at] == b'"' {
+            return name[at + 1..].trim_ascii_start().starts_with(b":");
+        }
+    }
+    false
+}
+
+/// The same with the hint that another entry begins in the line of this place, if one does before it.
+fn with_glued(input: &[u8], found: NoJson) -> NoJson {
+    let start = line_start(input, found.line as usize);
+    let line = input.get(start..).unwrap_or(b"");
+    match glued_at(line, found.column) {
+        Some(column) => hinted(&found, Hint::Glued(found.entry, column)),
+        None => found,
+    }
+}
+
+/// The same place with this hint.
+fn hinted(found: &NoJson, hint: Hint) -> NoJson {
+    NoJson {
+        line: found.line,
+        column: found.column,
+        entry: found.entry,
+        hint: Some(hint),
     }
 }
 
@@ -250,22 +301,34 @@ fn of_place(input: &[u8], entry: usize, at: usize, is_first: bool) -> NoJson {
         line,
         column: at.saturating_sub(start).saturating_add(1),
         entry,
-        hint: bytes_hint(before, &input[at..], is_first && entry == 1),
+        hint: bytes_hint(before, &input[at..], is_first && entry == 1, is_edn(input)),
     }
 }
 
 /// The hint of the bytes before and after the place at which the input stops being JSON or EDN.
-fn bytes_hint(before: &[u8], after: &[u8], is_first: bool) -> Option<Hint> {
+fn bytes_hint(before: &[u8], after: &[u8], is_first: bool, is_edn: bool) -> Option<Hint> {
     if after.starts_with(BYTE_ORDER_MARK) {
         return Some(Hint::Mark);
     }
     match after.first() {
         Some(byte) if *byte >= 128 => Some(Hint::Foreign),
         Some(b'_') if before.ends_with(b"#") => Some(Hint::Discard),
+        Some(b'}') if is_edn && !is_outside(before) => Some(Hint::Pair),
         Some(b'{' | b'}' | b'#' | b':' | b'"') => None,
+        Some(_) if is_first && is_outside(before) && has_end(after) => Some(Hint::Head),
         Some(_) if is_first && is_outside(before) => Some(Hint::History),
         _ => None,
     }
+}
+
+/// Whether the first line of these bytes ends as the one of an entry does.
+fn has_end(text: &[u8]) -> bool {
+    for at in 0..text.len() {
+        if text[at] == b'\n' {
+            return text[..at].trim_ascii_end().ends_with(b"}");
+        }
+    }
+    text.trim_ascii_end().ends_with(b"}")
 }
 
 /// Whether no bracket stands before: text that begins with one is not read as a history either.
@@ -277,7 +340,12 @@ fn is_outside(before: &[u8]) -> bool {
 fn flaw_hint(alloc: Global, input: &[u8], entry: usize, flaw: &Flaw) -> Option<Hint> {
     match flaw {
         Flaw::Invoked(..) => Some(Hint::Restart),
-        Flaw::Process | Flaw::Type | Flaw::Value => { tree_hint(alloc, input, entry, flaw) }
+        Flaw::Process
+        | Flaw::Type
+        | Flaw::Value
+        | Flaw::Operation(_)
+        | Flaw::Key(_)
+        | Flaw::Number(_) => tree_hint(alloc, input, entry, flaw),
         _ => None,
     }
 }
@@ -288,8 +356,14 @@ fn tree_hint(alloc: Global, input: &[u8], entry: usize, flaw: &Flaw) -> Option<H
         return None;
     };
     let object = object_of(json.as_slice(), entry)?;
+    if is_mixed(alloc, input, object).unwrap_or(false) {
+        return Some(Hint::JsonEntry);
+    }
     match Value::from_slice(alloc, &json[object.start..object.end]) {
-        Ok(tree) => member_hint(&tree, flaw),
+        Ok(tree) => match member_hint(&tree, flaw) {
+            Some(hint) => Some(hint),
+            None => found_hint(alloc, &tree, flaw, is_edn(input)),
+        },
         Err(_) => None,
     }
 }

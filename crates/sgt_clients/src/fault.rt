@@ -93,6 +93,9 @@ pub enum ClientsFault {
     /// The same, and the second one is an end of a process without an open invocation.
     #[error("{0} appends {1} to key {2} a second time, after {3}: it ends no invocation of its process")]
     Unasked(Position, i64, Shown, Position),
+    /// The same, and the first one is an end without an invocation, and the second one the invoke of the same process.
+    #[error("{0} appends {1} to key {2} a second time, after {3}")]
+    Early(Position, i64, Shown, Position),
     /// There is no transaction to judge.
     #[error("no operations")]
     NoOperations,

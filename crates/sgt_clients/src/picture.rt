@@ -30,6 +30,8 @@ const LEGEND: &[u8] =
 enum Subject {
     /// An order of its transactions.
     Order,
+    /// The first transactions of an order.
+    OrderStart,
     /// A cycle of transactions.
     Cycle,
     /// A read that is wrong.
@@ -51,7 +53,7 @@ pub fn append_timeline(
 ) -> Result<(), NoMemory> {
     let mut scene = Scene::new(alloc);
     let subject = add_level(alloc, &mut scene, clients, found, level)?;
-    if subject != Subject::Order {
+    if matches!(subject, Subject::Cycle | Subject::Read) {
         scene.add_ends(alloc, clients)?;
         scene.sort(alloc, clients)?;
     }
@@ -98,13 +100,14 @@ fn caption_of(
 /// Which of the operations are drawn, if not all are.
 fn left_out(subject: Subject) -> &'static [u8] {
     match subject {
-        Subject::Order => b" operations: those of the first transactions of the order\n",
+        Subject::Order => b" operations: those of the order, which has no aborted transactions\n",
+        Subject::OrderStart => b" operations: those of the first transactions of the order\n",
         Subject::Cycle => b" operations: those of the cycle, with the ends of its transactions\n",
         Subject::Read => b" operations: those that show what is wrong with the read\n",
     }
 }
 
-/// Adds what was found of the level.
+/// Adds what was found of the level. If the report says that its lines above break it, that is what they say.
 fn add_level(
     alloc: Global,
     scene: &mut Scene,
@@ -153,6 +156,9 @@ fn add_committed(
     found: &LevelFindings,
     weaker: &Weaker,
 ) -> Result<Subject, NoMemory> {
+    if weaker.committed_above {
+        return add_finding(scene, clients, &found.finding);
+    }
     match &weaker.levels.committed {
         Committed::Run(order) => add_order(scene, clients, order.as_slice()),
         Committed::Fault {
@@ -174,6 +180,9 @@ fn add_snapshot(
     found: &LevelFindings,
     weaker: &Weaker,
 ) -> Result<Subject, NoMemory> {
+    if weaker.snapshot_above {
+        return add_finding(scene, clients, &found.finding);
+    }
     match &weaker.levels.snapshot {
         Snapshot::Run(run) => add_order(scene, clients, run.order.as_slice()),
         Snapshot::NotCommitted => add_committed(alloc, scene, clients, found, weaker),
@@ -253,7 +262,7 @@ fn reason_of(ground: Ground) -> Reason {
 /// What stands out.
 fn highlight_of<'a>(subject: Subject, edges: &'a [Edge]) -> Highlight<'a> {
     match (subject, edges.first()) {
-        (Subject::Order, _) | (Subject::Read, None) => Highlight::Nothing,
+        (Subject::Order | Subject::OrderStart, _) | (Subject::Read, None) => Highlight::Nothing,
         (Subject::Cycle, _) => Highlight::Cycle(edges),
         (Subject::Read, Some(edge)) => Highlight::Violation(Violation {
             earlier: edge.earlier,
@@ -280,10 +289,10 @@ fn edges_of(alloc: Global, scene: &Scene) -> Result<Vec<Edge>, NoMemory> {
 fn add_order(scene: &mut Scene, clients: &Clients, order: &[usize]) -> Result<Subject, NoMemory> {
     for transaction in order {
         let Some(one) = clients.transactions.get(*transaction) else {
-            return Ok(Subject::Order);
+            return Ok(Subject::OrderStart);
         };
         if scene.strokes.len().saturating_add(one.operations.len()) >= MOST_DRAWN {
-            return Ok(Subject::Order);
+            return Ok(Subject::OrderStart);
         }
         add_all(scene, *transaction, one.operations.len())?;
         scene.add_end(clients, *transaction)?;

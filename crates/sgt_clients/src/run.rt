@@ -19,6 +19,7 @@ use crate::graph_text::append_graph;
 use crate::json_text::append_json;
 use crate::level::{Answer, Level, Question};
 use crate::level_findings::{LevelFindings, check_levels};
+use crate::notes::Notes;
 use crate::picture::append_timeline;
 use crate::report_text::append_report;
 use sgt_check::{CheckFault, read_input};
@@ -41,12 +42,12 @@ pub enum ClientsOutput {
 }
 
 /// Checks the client history in the source's bytes, writes the output, and returns the answer for the level of the
-/// question. All input is read before the first line is written.
+/// question. What the check takes for something else is noted. All input is read before the first line is written.
 ///
 /// # Errors
 ///
 /// - `Entry` with the first entry that is wrong, `NoOperations` or `OnlySkipped` if there is no transaction, `NoInvocations` if
-///   real time is to be kept and no entry is an invocation, `Twice` or `Unasked` if a value is appended twice to a key, `Check`
+///   real time is to be kept and no entry is an invocation, `Twice`, `Unasked` or `Early` if a value is appended twice to a key, `Check`
 ///   if the input has more than 268,435,456 bytes, a read failed or an allocation. Nothing is written then.
 /// - `Check` if a write failed. A prefix of the output is written then.
 pub fn run_clients<S: Source, T: Sink>(
@@ -55,6 +56,7 @@ pub fn run_clients<S: Source, T: Sink>(
     sink: &mut T,
     output: ClientsOutput,
     question: Question,
+    notes: &mut Notes,
 ) -> Result<Answer, ClientsFault>
     requires reading { S.failures source.old + 1 < 2 ^ 64 }
     requires writing { T.failures sink.old + 1 < 2 ^ 64 }
@@ -71,7 +73,7 @@ pub fn run_clients<S: Source, T: Sink>(
     ensures write_failed { result ≡ Err (fault.Check check_fault.Writing) → T.failures sink.new ≡ T.failures sink.old + 1 }
 {
     let input = read_input(alloc, source)?;
-    let checked = check_explained(alloc, input.as_slice(), output, question)?;
+    let checked = check_explained(alloc, input.as_slice(), output, question, notes)?;
     let Ok(()) = write_all(sink, checked.text.as_slice()) else {
         return Err(ClientsFault::Check(CheckFault::Writing));
     };
@@ -91,11 +93,12 @@ fn check_explained(
     text: &[u8],
     output: ClientsOutput,
     question: Question,
+    notes: &mut Notes,
 ) -> Result<Checked, ClientsFault>
     ensures checked { IfOk result (λ c. IsChecked question output text.now c.text.items c.answer) }
     ensures own { IfErr result IsOwn }
 {
-    match check_text(alloc, text, output, question) {
+    match check_text(alloc, text, output, question, notes) {
         Ok(checked) => Ok(checked),
         Err(fault) => Err(explained(alloc, text, fault)),
     }
@@ -107,15 +110,16 @@ fn check_text(
     text: &[u8],
     output: ClientsOutput,
     question: Question,
+    notes: &mut Notes,
 ) -> Result<Checked, ClientsFault>
     ensures checked { IfOk result (λ c. IsChecked question output text.now c.text.items c.answer) }
     ensures own { IfErr result IsOwn }
 {
     if !is_edn(text) {
-        return check_json(alloc, text, output, question);
+        return check_json(alloc, text, output, question, notes);
     }
     let json = json_of_edn(alloc, text)?;
-    check_json(alloc, json.as_slice(), output, question)
+    check_json(alloc, json.as_slice(), output, question, notes)
 }
 
 /// Checks the client history in the text, in JSON, for this output.
@@ -124,6 +128,7 @@ fn check_json(
     text: &[u8],
     output: ClientsOutput,
     question: Question,
+    notes: &mut Notes,
 ) -> Result<Checked, ClientsFault>
     ensures checked { IfOk result (λ c. IsJudged question output text.now c.text.items c.answer) }
     ensures own { IfErr result IsOwn }
@@ -140,6 +145,7 @@ fn check_json(
         return Err(fault);
     }
     let found = find(alloc, &clients, strict)?;
+    *notes = Notes::of(&clients);
     Ok(Checked {
         text: text_of(alloc, &clients, &found, output, strict, question.level)?,
         answer: found.answer(question.level),
@@ -194,6 +200,9 @@ fn own(error: ClientsFault) -> ClientsFault
         }
         ClientsFault::Unasked(second, value, key, first) => {
             ClientsFault::Unasked(second, value, key, first)
+        }
+        ClientsFault::Early(second, value, key, first) => {
+            ClientsFault::Early(second, value, key, first)
         }
         ClientsFault::NoOperations => ClientsFault::NoOperations,
         ClientsFault::OnlySkipped(count) => ClientsFault::OnlySkipped(count),

@@ -1,5 +1,6 @@
 //! Values that are appended twice to a key.
 
+use crate::barriers::process_of;
 use crate::clients::Clients;
 use crate::fault::{ClientsFault, Position};
 use crate::piece::entry_of;
@@ -43,7 +44,17 @@ fn again_fault(
     if again.first != number && is_unasked(clients, number) {
         return Ok(ClientsFault::Unasked(second, value, key, first));
     }
+    if again.first != number && is_early(clients, again.first, number) {
+        return Ok(ClientsFault::Early(second, value, key, first));
+    }
     Ok(ClientsFault::Twice(second, value, key, first))
+}
+
+/// Whether the first is an end without an invocation, and the second one an invocation of its process.
+fn is_early(clients: &Clients, first: usize, second: usize) -> bool {
+    is_unasked(clients, first)
+        && !is_unasked(clients, second)
+        && process_of(clients, first) == process_of(clients, second)
 }
 
 /// Whether others have an invocation, and the transaction has none.

@@ -63,7 +63,7 @@ impl Words {
 /// What the program says of this code.
 fn own_words(procedure: u16, code: u16) -> Option<&'static str> {
     if code == 1000 {
-        return Some("a result is not a value");
+        return Some("a result is not a value, or a divisor is 0");
     }
     if usize::from(procedure) >= NAMES.len() {
         return None;

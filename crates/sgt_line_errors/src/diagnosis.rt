@@ -38,7 +38,7 @@ pub fn diagnose(
         Fault::NoOpening => words(typed, "the input is empty"),
         Fault::LongLine(1) => words(
             typed,
-            "a line has at most 65536 bytes: accounts may follow as lines, as [\"record\",0,1,101] for the customer 101 of name 1; 1 and 2 are the tables of saving and checking",
+            "a line has at most 65536 bytes: accounts may follow as lines, as [\"record\",0,1,101] for the customer 101 of name 1; 1 and 2 are the tables of saving and checking; procedures stand in line 1 alone",
         ),
         Fault::LongLine(_) => words(typed, "a line has at most 65536 bytes"),
         Fault::NotJson(number) => json_fault(typed, *number),

@@ -3,7 +3,7 @@ use crate::account::NAMES;
 use crate::column::{Place, placed};
 use crate::excerpt::{excerpt, word_excerpt};
 use crate::limit::ordinal;
-use crate::message::{Message, unexpected, words};
+use crate::message::{Message, found, unexpected, words};
 use crate::tree::first_not_whole;
 use crate::typed::Typed;
 use serde_json::Value;
@@ -21,6 +21,9 @@ const IS_ENTRY: &str =
 
 /// What is said of records in an opening.
 const RECORDS: &str = ": records are lines after line 1, as [\"record\",3,1,7]";
+
+/// The form of an account.
+const ACCOUNT: &str = "[name,customer,saving,checking]";
 
 /// What is said of an account that is no list.
 const AN_ACCOUNT: &str = ": an account is a list in the list of accounts, as [[1,101,500,1000]]";
@@ -161,10 +164,10 @@ fn account_fault(typed: Typed<'_>, index: u64, account: &Value) -> Message {
             )
         }
         other => {
-            let found = excerpt(typed, account)?;
+            let found = found(typed, ACCOUNT, account)?;
             let rule = if other.is_none() { AN_ACCOUNT } else { "" };
             let text = format!(in typed.alloc;
-                "\"accounts\": expected [name,customer,saving,checking] as account {number}, found {found}{rule}"
+                "\"accounts\": expected {ACCOUNT} as account {number}, found {found}{rule}"
             )?;
             let positions = [index];
             placed(

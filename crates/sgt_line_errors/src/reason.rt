@@ -34,13 +34,19 @@ const LINE_ENDS: &str = "the JSON of this line ends before it";
 
 /// Why the first wrong token of a line may not stand there, or what may.
 pub(crate) fn reason(typed: Typed<'_>, wrong: &Wrong) -> Result<String, NoMemory> {
+    let rest = typed.text.get(wrong.token.at..).unwrap_or(b"");
+    if let Some(words) = key_words(typed, wrong, rest)? {
+        return Ok(words);
+    }
     if let Some(text) = wrong.text_before() {
+        if begins_number(rest) {
+            return Ok(format!(in typed.alloc; "a comma is missing before it")?);
+        }
         let column = text.begin.saturating_add(1);
         return Ok(format!(in typed.alloc;
             "the text at column {column} is followed by a word: a quote may be missing in it"
         )?);
     }
-    let rest = typed.text.get(wrong.token.at..).unwrap_or(b"");
     match (
         wrong.grammar.next,
         wrong.grammar.open.last(),
@@ -63,6 +69,33 @@ pub(crate) fn reason(typed: Typed<'_>, wrong: &Wrong) -> Result<String, NoMemory
             Ok(format!(in typed.alloc; "{words}")?)
         }
     }
+}
+
+// What is said of a slash between the digits of a key, as replies and databases have it, and these bytes begin with it.
+fn key_words(typed: Typed<'_>, wrong: &Wrong, rest: &[u8]) -> Result<Option<String>, NoMemory> {
+    let before = typed.text.get(..wrong.token.at).unwrap_or(b"");
+    let [b'/', rest @ ..] = rest else {
+        return Ok(None);
+    };
+    if !begins_number(rest) || !ends_in_digit(before) {
+        return Ok(None);
+    }
+    let words = if wrong.grammar.open.is_empty() {
+        "a record is written as [\"record\",table,number,value], as --records does"
+    } else {
+        "a key is written as two numbers, its table and its number: 2,101 for 2/101"
+    };
+    Ok(Some(format!(in typed.alloc; "{words}")?))
+}
+
+// Whether these bytes begin with a digit or a minus sign.
+fn begins_number(text: &[u8]) -> bool {
+    matches!(text.first(), Some(b'0'..=b'9' | b'-'))
+}
+
+// Whether these bytes end with a digit.
+fn ends_in_digit(text: &[u8]) -> bool {
+    matches!(text.last(), Some(b'0'..=b'9'))
 }
 
 // What is said of a value that stands where the name of a member of this object has to.
@@ -160,7 +193,7 @@ fn words_after(
     rest: &[u8],
 ) -> Option<&'static str> {
     match (kind, begins) {
-        (TokenKind::Closes(_), _) => None,
+        (TokenKind::Closes(_), _) => Some("this bracket closes nothing, and may be too many"),
         (TokenKind::Other, _) => other_words(rest),
         (TokenKind::Colon, Some(b'"')) => Some("an object stands in { }"),
         (_, Some(b'[')) if has_ended_early => Some("a ] before it is too many"),
@@ -182,7 +215,8 @@ fn words_at(next: Next, top: Option<&Open>, kind: TokenKind, rest: &[u8]) -> &'s
         (Next::FirstName, TokenKind::Closes(_)) => OBJECT_ENDS,
         (Next::Value, TokenKind::Closes(_) | TokenKind::Comma) =>
             "a value is missing after the colon",
-        (Next::Item | Next::Name, TokenKind::Closes(_)) => "nothing stands after the comma",
+        (Next::Item | Next::Name, TokenKind::Closes(_)) =>
+            "nothing stands between the comma and this bracket: an item is missing, or the comma is too many",
         (Next::Colon, kind) => if begins_value(kind) {
             "a colon is missing before it"
         } else {
@@ -220,7 +254,8 @@ fn separator_words(top: Option<&Open>, kind: TokenKind, rest: &[u8]) -> &'static
     };
     match kind {
         TokenKind::Closes(_) if is_list => LIST_ENDS,
-        TokenKind::Closes(_) => OBJECT_ENDS,
+        TokenKind::Closes(_) =>
+            "an object ends in }, and no list is open: this ] or one before it is too many",
         _ if begins_value(kind) => "a comma is missing before it",
         _ => match other_words(rest) {
             Some(words) => words,

@@ -6,6 +6,10 @@ use serde_json::Value;
 use sgt_format::items;
 use sgt_model::{LAST_TABLE, LEAST, MOST};
 
+/// What made a record that is there already.
+const MADE_BEFORE: &str =
+    "an account of line 1 or a record line before makes it; where records follow, line 1 may have \"accounts\":[]";
+
 /// The table, the number and the value of a list of a word and three whole numbers, in or out of range.
 pub(crate) fn numbers(tree: &Value) -> Option<(i64, i64, i64)> {
     match items(tree)? {
@@ -33,5 +37,5 @@ pub(crate) fn record_fault(typed: Typed<'_>, tree: &Value) -> Message {
             return placed(typed, Place::in_list(&[*position]), Ok(Some(text)));
         }
     }
-    Ok(Some(format!(in typed.alloc; "record {table}/{number} is there already")?))
+    Ok(Some(format!(in typed.alloc; "record {table}/{number} is there already: {MADE_BEFORE}")?))
 }

@@ -1,7 +1,7 @@
 //! Errors in the line of an event or of a job.
 use crate::column::{Place, placed};
 use crate::excerpt::excerpt;
-use crate::message::{Message, unexpected, unknown};
+use crate::message::{Message, unexpected, unknown, words};
 use crate::record::numbers;
 use crate::tree::{first_not_whole, word_of};
 use crate::typed::Typed;
@@ -30,6 +30,9 @@ const LINES: &str =
 const JOBS: &str =
     "a job is [\"job\",procedure,[argument,..]]; before the first job, a line may start with record";
 
+/// What is said of an opening after line 1.
+const FIRST_LINE: &str = "an object with limits stands in line 1 alone: leave it out here";
+
 /// What is said of a procedure that is named by a text.
 const BY_NUMBER: &str =
     ": a procedure is named by its number, and those of line 1 are numbered from 5";
@@ -53,6 +56,7 @@ pub(crate) fn event_fault(typed: Typed<'_>, tree: &Value) -> Message {
             START,
         ),
         Some(word) => unknown(typed, word, LINES),
+        None if tree.get("limits").is_some() => words(typed, FIRST_LINE),
         None => unexpected(typed, "an event, as [\"step\",0]", tree),
     }
 }
@@ -70,6 +74,7 @@ pub(crate) fn job_fault(typed: Typed<'_>, tree: &Value) -> Message {
             JOB,
         ),
         Some(word) => unknown(typed, word, JOBS),
+        None if tree.get("limits").is_some() => words(typed, FIRST_LINE),
         None => unexpected(typed, "a job, as [\"job\",0,[1]]", tree),
     }
 }

@@ -11,11 +11,10 @@ pub returns : goal.returns
 returns c =
     let saw = c.args.clients.now in
     let t = c.args.tie.now in
-    let put = c.in-Some.put in
-    let other = c.in-Some-put_at.other in
     on_ok c.append_pieces.result _ _
     (λ more. more ∙ ap (λ l. c.args.text.now.items ++ l)
-    (to_left_is (codes ", with ") (value_text put.value ∷ codes " of " ∷ transaction_text t.from ∷ codes " and without " ∷ value_text other.value ∷ codes " of " ∷ transaction_text t.to ∷ [])
-    ∙ sym (values_some (late_text t.from t.to) (operation_at saw t.from c.args.first) (operation_at saw t.to c.args.second) put other
+    (to_left_is (codes ", with ") (value_text c.in-Some.put.value ∷ codes " of " ∷ transaction_text t.from ∷ codes " and without " ∷ value_text c.in-Some-put_at.other.value ∷ codes " of " ∷ transaction_text t.to ∷ [])
+    ∙ sym (values_some (late_text t.from t.to) (operation_at saw t.from c.args.first) (operation_at saw t.to c.args.second) c.in-Some.put
+    c.in-Some-put_at.other
     (sym c.put_at.ensures ∙ c.in-Some.is) (sym c.put_at-2.ensures ∙ c.in-Some-put_at.is))))
     c.append_pieces.ensures
