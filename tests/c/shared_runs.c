@@ -56,6 +56,13 @@ static void must(bool holds, const char *what)
     exit(1);
 }
 
+/* A call may have one of these two statuses. Another one is printed. */
+static void must_be(uint32_t status, uint32_t one, uint32_t other, const char *what)
+{
+    if (status != one && status != other) fprintf(stderr, "status %" PRIu32 ", %s: ", status, sgt_status_text(status));
+    must(status == one || status == other, what);
+}
+
 static FILE *opened(const char *name)
 {
     char path[TEXT];
@@ -181,7 +188,7 @@ static void run_one(struct thread *it)
     count(RUNS);
     if (outcome.tries > 1) count(AGAIN);
     if (outcome.waits > 0) count(WAITED);
-    must(status == SGT_OK || status == SGT_TIMED_OUT, "a run has another status");
+    must_be(status, SGT_OK, SGT_TIMED_OUT, "a run has another status");
     if (status == SGT_TIMED_OUT) {
         count(TIMED_OUT);
         return;
@@ -252,10 +259,11 @@ static void step_one(struct thread *it)
         count(TIMED_OUT);
         return;
     }
-    must(status == SGT_OK && reply.kind == SGT_STARTED, "a start was refused");
+    must_be(status, SGT_OK, SGT_OK, "a start has another status");
+    must(reply.kind == SGT_STARTED, "a start was refused");
     log_reply(it, &ticket, "start", &reply);
     status = step_on(it, &ticket, &reply);
-    must(status == SGT_OK || status == SGT_STALE, "an event has another status");
+    must_be(status, SGT_OK, SGT_STALE, "an event has another status");
     if (status == SGT_STALE) count(STALE);
     else if (reply.kind == SGT_COMMITTED) count(COMMITTED);
 }
@@ -285,7 +293,7 @@ static void transact_one(struct thread *it)
     count(TRANSACTED);
     if (outcome.tries > 1) count(AGAIN);
     if (outcome.waits > 0) count(WAITED);
-    must(status == SGT_OK || status == SGT_TIMED_OUT, "a transaction function has another status");
+    must_be(status, SGT_OK, SGT_TIMED_OUT, "a transaction function has another status");
     if (status == SGT_TIMED_OUT) {
         count(TIMED_OUT);
         return;
@@ -310,7 +318,7 @@ static void quit_oldest(struct thread *it)
     count(LISTED);
     if (many == 0 || live[0].for_ns < 1000000) return;
     uint32_t status = sgt_shared_quit(shared, &live[0].ticket, &reply);
-    must(status == SGT_OK || status == SGT_STALE, "a quit has another status");
+    must_be(status, SGT_OK, SGT_STALE, "a quit has another status");
     if (status != SGT_OK) return;
     count(ABANDONED);
     log_reply(it, &live[0].ticket, "quit", &reply);
