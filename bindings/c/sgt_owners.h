@@ -31,10 +31,10 @@ static sgt_note *find(sgt_shared *s, uint32_t tid)
     return i > 0 ? &s->note[i - 1] : 0;
 }
 
-/* Notes that this thread makes a call for a transaction. */
-static void claim(sgt_shared *s, uint32_t tid)
+/* Notes that this thread makes a call for a transaction. A ticket of another part names none: its number may be another thread's by now. */
+static void claim(sgt_shared *s, const sgt_ticket *ticket)
 {
-    sgt_note *it = find(s, tid);
+    sgt_note *it = ticket->part == s->part ? find(s, ticket->tid) : 0;
     if (it) it->thread = this_thread(), it->rests = 0;
 }
 

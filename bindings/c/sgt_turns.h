@@ -70,7 +70,7 @@ struct asked {
 static uint32_t make(sgt_shared *s, const sgt_ticket *ticket, const struct asked *it, sgt_reply *reply)
 {
     uint32_t wakes = 0;
-    claim(s, ticket->tid);
+    claim(s, ticket);
     const uint32_t turn =
         sgt_desk_make(&s->engine, &s->desk, ticket->part, ticket->tid, it->kind, it->table, it->number, it->value, reply, &wakes);
     after_turn(s, wakes);
@@ -148,7 +148,7 @@ static uint32_t commit(sgt_shared *s, const sgt_ticket *ticket, struct deadline 
 {
     uint32_t late = SGT_TIMED_OUT;
     sgt_ask ask = asked_until(until), before = {0};
-    claim(s, ticket->tid);
+    claim(s, ticket);
     for (;;) {
         uint32_t wakes = 0;
         const uint32_t turn =

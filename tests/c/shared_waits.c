@@ -1,6 +1,6 @@
 /*
  * Threads that wait for each other without a deadline, each with something live that another one waits for: one of them is told so, by
- * SGT_SELF_WAIT, and none waits for ever. For tests/threads.py.
+ * SGT_SELF_WAIT, and none waits for ever. Nobody else is told so. For tests/threads.py.
  *
  *     shared_waits SEED
  *
@@ -175,6 +175,51 @@ static void beside_a_cut(void)
     closes(shared);
 }
 
+/* A ticket of a part that was cut off */
+
+/* Another thread, whose transaction writes a record, and commits when it is told to. */
+struct writer {
+    pthread_t id;
+    sgt_shared *shared;
+    pthread_barrier_t *turn;
+    sgt_ticket ticket;
+};
+
+static void *commits_when_told(void *of)
+{
+    struct writer *it = of;
+    sgt_reply reply = {0};
+    it->ticket = begins(it->shared);
+    writes(it->shared, &it->ticket);
+    pthread_barrier_wait(it->turn);
+    pthread_barrier_wait(it->turn);
+    CHECK(sgt_shared_commit(it->shared, &it->ticket, SGT_FOREVER, &reply) == SGT_OK && reply.kind == SGT_COMMITTED);
+    return 0;
+}
+
+/* Calls that are refused for an old ticket make no transaction of another thread one's own, though it has the same number. */
+static void with_an_old_ticket(void)
+{
+    pthread_barrier_t turn;
+    sgt_shared *shared = opened(eight);
+    sgt_reply reply = {0};
+    struct writer writer = {.shared = shared, .turn = &turn};
+    const sgt_ticket old = begins(shared);
+    quits(shared, &old);
+    CHECK(pthread_barrier_init(&turn, 0, 2) == 0 && sgt_shared_cut(shared, SGT_FOREVER) == SGT_OK);
+    CHECK(pthread_create(&writer.id, 0, commits_when_told, &writer) == 0);
+    pthread_barrier_wait(&turn);
+    const sgt_ticket mine = begins(shared);
+    CHECK(writer.ticket.tid == old.tid && writer.ticket.part != old.part);
+    CHECK(sgt_shared_read(shared, &mine, TABLE, 1, &reply) == SGT_OK && reply.kind == SGT_LOOKED);
+    CHECK(sgt_shared_step(shared, &old, &reply) == SGT_STALE && sgt_shared_commit(shared, &old, SGT_FOREVER, &reply) == SGT_STALE);
+    pthread_barrier_wait(&turn);
+    CHECK(sgt_shared_commit(shared, &mine, SGT_FOREVER, &reply) == SGT_OK && reply.kind == SGT_COMMITTED);
+    pthread_join(writer.id, 0);
+    CHECK(pthread_barrier_destroy(&turn) == 0);
+    closes(shared);
+}
+
 /* Whatever threads call */
 
 enum { THREADS = 8, CALLS = 4000, OWN = 3, RECORDS = 4 };
@@ -302,6 +347,7 @@ int main(int argc, char **argv)
     in_a_full_engine();
     beside_a_commit();
     beside_a_cut();
+    for (int round = 0; round < ROUNDS; round++) with_an_old_ticket();
     whatever_threads_call(argc > 1 ? (unsigned)atoi(argv[1]) : 1);
     printf("%d checks, %d failed\n", (int)checks, (int)failed);
     return failed != 0;
