@@ -114,8 +114,9 @@ impl<R: Records, A: Accesses, G: Graph> Sched<R, A, G> {
         )
     }
 
-    // The same, if others have conflicting accesses. Each kind of access has its own copy of it.
-    #[inline(always)]
+    // The same, if others have conflicting accesses. It is called, so that `access` stays small: from a function that
+    // would grow very large the compiler drops `inline(always)`, without a message.
+    #[inline(never)]
     fn access_after(
         &mut self,
         t: Tid,
