@@ -1,11 +1,12 @@
 -- Facts from rows: the job of a transaction, that it failed, and which of two came after the other.
-use Rattle.std.proofs.Common.{◌≡◌, ◌↔◌, ℕ, ◌<◌, ◌≤◌, true, false, inl, inr, arith, List, [], length, get_or, Some, None, refl, sym, subst, ◌∙◌, slice_get}
+use Rattle.std.proofs.Common.{◌≡◌, ◌↔◌, ℕ, ◌<◌, ◌≤◌, true, false, inl, inr, arith, List, length, get_or, reverse, Some, None, refl, sym, ap, subst, ◌∙◌, slice_get}
 use Rattle.std.proofs.lemmas.Bool.{true≢false}
 use Rattle.std.proofs.lemmas.Option.{none-some, same_Some, slice_get_cases, slice_get_past, slice_get_read, slice_get_within}
 use Rattle.sgt_model.specs.declared.entry.Entry.{Entry}
+use Rattle.sgt_model.specs.Progress.{call_of}
 use Rattle.sgt_audit.specs.declared.lives.Life.{Life}
 use Rattle.sgt_audit.specs.declared.job.Job.{Job}
-use Rattle.sgt_audit.specs.Lives.{AreLives}
+use Rattle.sgt_audit.specs.Lives.{call_started, AreLives}
 use Rattle.sgt_audit.specs.Outcomes.{call_for, IsFailed, IsOf}
 use Rattle.sgt_audit.specs.Spans.{EndsBefore}
 
@@ -47,16 +48,16 @@ module _ (past : List Entry) (lives : List Life) (are : AreLives past lives) (jo
       ]
 
   module _ (life : Life) (at : slice_get lives t ≡ Some life) where
-    pub is_of : IsOf past job t ↔ (call_for job ≡ record { procedure = life.procedure; args = life.args; caller_accesses = [] })
+    pub is_of : IsOf past job t ↔ (call_started (reverse past) life.started ≡ Some (call_for job))
     is_of = (
-      (λ of. sym of.call ∙ (are.each t life at).call),
+      (λ of. (are.each t life at).call ∙ ap Some of.call),
       λ same. record {
         started = subst (λ n. t < n) are.counted (slice_get_within lives t life at);
-        call = (are.each t life at).call ∙ sym same;
+        call = same_Some (call_of past t) (call_for job) (sym (are.each t life at).call ∙ same);
       },
     )
 
-    pub has_failed_of : life.failed ≡ true → IsFailed past job t ↔ (call_for job ≡ record { procedure = life.procedure; args = life.args; caller_accesses = [] })
+    pub has_failed_of : life.failed ≡ true → IsFailed past job t ↔ (call_started (reverse past) life.started ≡ Some (call_for job))
     has_failed_of it = (
       (λ failed. is_of.0 failed.is_of),
       λ same. record { is_of = is_of.1 same; failed = (are.each t life at).failed ∙ it },

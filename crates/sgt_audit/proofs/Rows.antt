@@ -1,7 +1,8 @@
 -- The table of transactions after one entry more.
-use Rattle.std.proofs.Common.{◌≡◌, ◌≢◌, ℕ, zero, suc, ◌+◌, ◌<◌, ◌≤◌, ℤ, Bool, true, false, cond, ◌||◌, ◌⊎◌, nat_eq, get_or, take, List, [], ◌∷◌, ◌++◌, length, length-append, Option, Some, None, refl, sym, ap, ap₂, subst, inl, inr, ◌∙◌, arith, slice_get}
+use Rattle.std.proofs.Common.{◌≡◌, ◌≢◌, ℕ, zero, suc, ◌+◌, ◌<◌, ◌≤◌, ℤ, Bool, true, false, cond, ◌||◌, ◌⊎◌, nat_eq, get_or, take, List, [], ◌∷◌, ◌++◌, length, length-append, Option, Some, None, refl, reverse, sym, ap, ap₂, subst, inl, inr, ◌∙◌, arith, slice_get}
 use Rattle.std.proofs.lemmas.Bool.{true≢false, eq-eqb, ne_eqb}
 use Rattle.std.proofs.lemmas.Option.{none-some, same_Some, slice_get_cases, slice_get_past}
+use Rattle.std.proofs.lemmas.List.{reverse-append, length-reverse}
 use Rattle.std.proofs.lemmas.List.Folds.{list_any_more}
 use Rattle.std.specs.List.{list_any}
 use Rattle.std.specs.Option.{is_some, option_map, option_or, unwrap_or}
@@ -11,7 +12,7 @@ use Rattle.sgt_model.specs.declared.reply.Reply.TheVariants as reply
 use Rattle.sgt_model.specs.declared.reply.Fate.{Fate}
 use Rattle.sgt_model.specs.declared.entry.Entry.{Entry}
 use Rattle.sgt_model.specs.Fates.{is_start, start_count, ending_in, fate_of}
-use Rattle.sgt_model.specs.Progress.{call_in, call_of}
+use Rattle.sgt_model.specs.Progress.{Call, call_at, call_in, call_of}
 use Rattle.sgt_model.specs.Configurations.{Configuration}
 use Rattle.sgt_model.specs.Legality.{Legal, LegalReply}
 use Rattle.sgt_model.proofs.Effects.{no_start-no_call, effect}
@@ -20,7 +21,7 @@ use Rattle.sgt_model.proofs.Capacity.{starts_or_not}
 use Rattle.sgt_audit.specs.declared.lives.Life.{Life}
 use Rattle.sgt_audit.specs.Spans.{starts_as, started_at, ended_at}
 use Rattle.sgt_audit.specs.Outcomes.{has_failed}
-use Rattle.sgt_audit.specs.Lives.{IsLife, AreLives, ended_life, life_after, with_started}
+use Rattle.sgt_audit.specs.Lives.{call_started, IsLife, AreLives, started_life, ended_life, life_after}
 
 starts_not : (r : Reply) (t : ℕ) → is_start r ≡ false → starts_as r t ≡ false
 starts_not (reply.Started u) t e = absurd (true≢false e)
@@ -34,6 +35,27 @@ was_row f (Some old) life e = (old, refl, sym (same_Some (f old) life e))
 no_row : (f : Life → Life) (o : Option Life) → option_map f o ≡ None → o ≡ None
 no_row f None e = refl
 no_row f (Some old) e = absurd (none-some (f old) (sym e))
+
+-- the call of an entry, which stays when one more comes
+
+call_more : (h : List Entry) (e : Entry) (n : ℕ) (call : Call) → call_started h n ≡ Some call → call_started (h ++ e ∷ []) n ≡ Some call
+call_more [] e n call is = absurd (none-some call is)
+call_more (x ∷ h) e zero call is = is
+call_more (x ∷ h) e (suc n) call is = call_more h e n call is
+
+call_kept : (past : List Entry) (e : Entry) (n : ℕ) (call : Call) → call_started (reverse past) n ≡ Some call
+    → call_started (reverse (e ∷ past)) n ≡ Some call
+call_kept past e n call is = ap (λ h. call_started h n) (reverse-append (e ∷ []) past) ∙ call_more (reverse past) e n call is
+
+call_last : (h : List Entry) (e : Entry) → call_started (h ++ e ∷ []) (length h) ≡ call_at e.event
+call_last [] e = refl
+call_last (x ∷ h) e = call_last h e
+
+call_newest : (past : List Entry) (e : Entry) → call_started (reverse (e ∷ past)) (length past) ≡ call_at e.event
+call_newest past e =
+    ap (λ h. call_started h (length past)) (reverse-append (e ∷ []) past)
+    ∙ ap (call_started (reverse past ++ e ∷ [])) (sym (length-reverse past))
+    ∙ call_last (reverse past) e
 
 -- an entry that starts none, and ends some or none
 pub lives_ended : (s : Configuration) (past : List Entry) (e : Entry) (lives after : List Life) → LegalReply s past e.event e.reply
@@ -55,8 +77,10 @@ lives_ended s past e lives after legal none are rows count = record {
     not_started : (t : ℕ) → started_at (e ∷ past) t ≡ started_at past t
     not_started t = ap (λ b. cond b (Some (length past)) (started_at past t)) (starts_not e.reply t none)
 
-    same_call : (t : ℕ) → call_of (e ∷ past) t ≡ call_of past t
-    same_call t = ap (λ o. unwrap_or o (call_of past t)) (no_start-no_call e.event e.reply none t)
+    same_call : (t : ℕ) (old : Life) → call_started (reverse past) old.started ≡ Some (call_of past t)
+        → call_started (reverse (e ∷ past)) old.started ≡ Some (call_of (e ∷ past) t)
+    same_call t old is = call_kept past e old.started (call_of past t) is
+        ∙ ap Some (sym (ap (λ o. unwrap_or o (call_of past t)) (no_start-no_call e.event e.reply none t)))
 
     not_ended : (t : ℕ) → slice_get lives t ≡ None → (o : Option Fate) → ending_in e.event e.reply t ≡ o
         → cond (is_some (ending_in e.event e.reply t)) (Some (length past)) (ended_at past t) ≡ ended_at past t
@@ -74,13 +98,13 @@ lives_ended s past e lives after legal none are rows count = record {
       where
         go : (o : Option Fate) → ending_in e.event e.reply t ≡ o → IsLife (e ∷ past) t (life_after (length past) o old)
         go None q = record {
-          call = same_call t ∙ is.call;
+          call = same_call t old is.call;
           started = not_started t ∙ is.started;
           ended = ap (λ o. cond (is_some o) (Some (length past)) (ended_at past t)) q ∙ is.ended;
           failed = ap (λ o. has_failed (option_or o (fate_of past t))) q ∙ is.failed;
         }
         go (Some f) q = record {
-          call = same_call t ∙ is.call;
+          call = same_call t old is.call;
           started = not_started t ∙ is.started;
           ended = ap (λ o. cond (is_some o) (Some (length past)) (ended_at past t)) q;
           failed = ap (λ o. has_failed (option_or o (fate_of past t))) q;
@@ -100,7 +124,7 @@ pushed (x ∷ lives) new (suc t) life at = elim (pushed lives new t life at) [
 -- an entry that starts one
 pub lives_started : (s : Configuration) (past : List Entry) (e : Entry) (lives : List Life) → Legal s past → (p : ℕ) (args : List ℤ)
     → e.event ≡ Start p args → e.reply ≡ reply.Started (start_count past) → AreLives past lives → AreLives (e ∷ past)
-    (lives ++ record { procedure = p; args = args; started = length past; ended = None; failed = false } ∷ [])
+    (lives ++ started_life (length past) ∷ [])
 lives_started s past e lives legal p args event_is reply_is are = record {
   counted = length-append lives (new ∷ []) ∙ (ap (λ n. n + 1) are.counted ∙ sym more);
   each = λ t life at. elim (pushed lives new t life at) [
@@ -114,7 +138,7 @@ lives_started s past e lives legal p args event_is reply_is are = record {
 }
   where
     new : Life
-    new = record { procedure = p; args = args; started = length past; ended = None; failed = false }
+    new = started_life (length past)
 
     more : start_count (e ∷ past) ≡ start_count past + 1
     more = ap (λ b. cond b (start_count past + 1) (start_count past)) (ap is_start reply_is)
@@ -144,8 +168,9 @@ lives_started s past e lives legal p args event_is reply_is are = record {
 
     earlier : (t : ℕ) (life : Life) → IsLife past t life → t < start_count past → IsLife (e ∷ past) t life
     earlier t life is less = record {
-      call = call_is t ∙ (ap (λ b. unwrap_or (cond b (Some (record { procedure = p; args = args; caller_accesses = [] })) None) (call_of past t))
-          (ne_eqb (start_count past) t (λ same. absurd (omega arith))) ∙ is.call);
+      call = call_kept past e life.started (call_of past t) is.call
+          ∙ ap Some (sym (call_is t ∙ ap (λ b. unwrap_or (cond b (Some (record { procedure = p; args = args; caller_accesses = [] })) None)
+          (call_of past t)) (ne_eqb (start_count past) t (λ same. absurd (omega arith)))));
       started = not_started t (λ same. absurd (omega arith)) ∙ is.started;
       ended = not_ended t ∙ is.ended;
       failed = ap has_failed (same_fate t) ∙ is.failed;
@@ -153,8 +178,10 @@ lives_started s past e lives legal p args event_is reply_is are = record {
 
     own : IsLife (e ∷ past) (start_count past) new
     own = record {
-      call = call_is (start_count past) ∙ ap (λ b. unwrap_or (cond b (Some (record { procedure = p; args = args; caller_accesses = [] })) None)
-          (call_of past (start_count past))) (eq-eqb (start_count past) (start_count past) refl);
+      call = call_newest past e ∙ ap call_at event_is
+          ∙ ap Some (sym (call_is (start_count past) ∙ ap (λ b. unwrap_or
+          (cond b (Some (record { procedure = p; args = args; caller_accesses = [] })) None)
+          (call_of past (start_count past))) (eq-eqb (start_count past) (start_count past) refl)));
       started = ap (λ r. cond (starts_as r (start_count past)) (Some (length past)) (started_at past (start_count past))) reply_is
           ∙ ap (λ b. cond b (Some (length past)) (started_at past (start_count past))) (eq-eqb (start_count past) (start_count past) refl);
       ended = not_ended (start_count past)
@@ -165,10 +192,9 @@ lives_started s past e lives legal p args event_is reply_is are = record {
 -- an entry with the reply Started
 pub lives_started_by : (s : Configuration) (past : List Entry) (e : Entry) (lives : List Life) (t : ℕ) → Legal s past
     → LegalReply s past e.event e.reply → e.reply ≡ reply.Started t → AreLives past lives → AreLives (e ∷ past)
-    (with_started (length past) e.event lives)
+    (lives ++ started_life (length past) ∷ [])
 lives_started_by s past e lives t legal reply_legal is are = elim (starts_or_not (effect s past e.event e.reply reply_legal)) [
-  | inl b ↦ subst (λ v. AreLives (e ∷ past) (with_started (length past) v lives)) (sym b.event_is)
-      (lives_started s past e lives legal b.procedure b.args b.event_is b.reply_is are)
+  | inl b ↦ lives_started s past e lives legal b.procedure b.args b.event_is b.reply_is are
   | inr not_one ↦ absurd (true≢false (sym (ap is_start is) ∙ not_one))
 ]
 

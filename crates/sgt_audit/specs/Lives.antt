@@ -1,18 +1,21 @@
 -- What a history says of each transaction, as one table by transaction number.
-use Rattle.std.specs.Prelude.{◌≡◌, ℕ, Bool, false, List, [], ◌∷◌, ◌++◌, length, Option, Some, None, slice_get}
-use Rattle.sgt_model.specs.declared.event.Event.{Event}
-use Rattle.sgt_model.specs.declared.event.Event.TheVariants.{Start, Step, Access, Commit, Quit}
+use Rattle.std.specs.Prelude.{◌≡◌, ℕ, Bool, false, List, length, reverse, Option, Some, None, slice_get}
+use Rattle.std.specs.Option.{option_and_then}
 use Rattle.sgt_model.specs.declared.entry.Entry.{Entry}
 use Rattle.sgt_model.specs.declared.reply.Fate.{Fate}
 use Rattle.sgt_model.specs.Fates.{start_count, fate_of}
-use Rattle.sgt_model.specs.Progress.{call_of}
+use Rattle.sgt_model.specs.Progress.{Call, call_at, call_of}
 use Rattle.sgt_audit.specs.declared.lives.Life.{Life}
 use Rattle.sgt_audit.specs.Spans.{started_at, ended_at}
 use Rattle.sgt_audit.specs.Outcomes.{has_failed}
 
+-- the call that the entry with this number requests, if it is a start
+abbrev pub call_started : List Entry → ℕ → Option Call
+call_started history number = option_and_then (λ (e : Entry). call_at e.event) (slice_get history number)
+
 -- the row says what the history says of t
 pub record IsLife (past : List Entry) (t : ℕ) (life : Life) : Type 0 where
-  pub call : call_of past t ≡ record { procedure = life.procedure; args = life.args; caller_accesses = [] }
+  pub call : call_started (reverse past) life.started ≡ Some (call_of past t)
   pub started : started_at past t ≡ Some life.started
   pub ended : ended_at past t ≡ life.ended
   pub failed : has_failed (fate_of past t) ≡ life.failed
@@ -37,10 +40,6 @@ abbrev pub life_after : ℕ → Option Fate → Life → Life
 life_after number None life = life
 life_after number (Some f) life = ended_life number (has_failed (Some f)) life
 
--- the rows after an event with the reply Started
-abbrev pub with_started : ℕ → Event → List Life → List Life
-with_started number (Start p args) lives = lives ++ record { procedure = p; args = args; started = number; ended = None; failed = false } ∷ []
-with_started number (Step t) lives = lives
-with_started number (Access t d) lives = lives
-with_started number (Commit t) lives = lives
-with_started number (Quit t) lives = lives
+-- the row of a transaction that this entry started
+abbrev pub started_life : ℕ → Life
+started_life number = record { started = number; ended = None; failed = false }

@@ -30,7 +30,7 @@ pub fn audit<N>(
     ensures { IfOk result (λ stands.
         IsTrue stands ↔ OutcomesStand history.now.entries jobs.now outcomes.now workers tries) }
 {
-    let Some(Survey { lives, ends }) = make_survey(alloc, history, workers)? else {
+    let Some(Survey { lives, ends }) = make_survey(alloc, history, workers, jobs.len())? else {
         return Ok(false);
     };
     if !all_stand(history, &lives, jobs, outcomes, tries) {

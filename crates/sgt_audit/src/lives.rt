@@ -1,23 +1,20 @@
 //! What a history says of each transaction.
-ghost use Rattle.std.specs.Prelude.{◌≡◌, ℕ, ◌<◌, Bool, true, cond, nat_eq, List, ◌∷◌, OnOk, length, slice_get, vec_len};
+ghost use Rattle.std.specs.Prelude.{◌≡◌, ℕ, ◌<◌, Bool, true, cond, nat_eq, List, [], ◌∷◌, ◌++◌, OnOk, length, slice_get, vec_len};
 ghost use Rattle.std.specs.List.{list_any};
 ghost use Rattle.std.specs.Option.{option_map};
 ghost use Rattle.sgt_model.specs.declared.entry.Entry.{Entry};
 ghost use Rattle.sgt_model.specs.Fates.{concerns, ending_in};
 ghost use Rattle.sgt_model.specs.Configurations.{Configuration};
 ghost use Rattle.sgt_model.specs.Legality.{Legal, LegalReply};
-ghost use Rattle.sgt_audit.specs.Lives.{AreLives, ended_life, life_after, with_started};
+ghost use Rattle.sgt_audit.specs.Lives.{AreLives, started_life, ended_life, life_after};
 
 use sgt_log::EntryRef;
-use sgt_model::{Args, Event, NoMemory, Tid};
+use sgt_model::{NoMemory, Tid};
 
 /// What a history says of one transaction.
 #[derive(Drop)]
 pub struct Life {
-    /// The procedure and arguments.
-    pub procedure: u16,
-    pub args: Args,
-    /// The entry that started the transaction.
+    /// The entry that started the transaction. Its event has the procedure and the arguments.
     pub started: usize,
     /// The entry that ended it, if any.
     pub ended: Option<usize>,
@@ -32,25 +29,21 @@ pub fn add_entry(lives: &mut Vec<Life>, number: usize, entry: &EntryRef<'_>) -> 
         → OnOk result (AreLives (entry.now ∷ past) lives.new.items) }
 {
     if entry.is_start() {
-        return add_started(lives, number, entry.event());
+        return add_started(lives, number);
     }
     end_those(lives, number, entry);
     Ok(())
 }
 
-/// Adds the row of the transaction that this event started.
-fn add_started(lives: &mut Vec<Life>, number: usize, event: Event) -> Result<(), NoMemory>
-    ensures { OnOk result (lives.new.items ≡ with_started number event lives.old.items) }
+/// Adds the row of the transaction that the entry with this number started.
+fn add_started(lives: &mut Vec<Life>, number: usize) -> Result<(), NoMemory>
+    ensures { OnOk result (lives.new.items ≡ lives.old.items ++ started_life number ∷ []) }
 {
-    if let Event::Start { procedure, args } = event {
-        lives.push(Life {
-            procedure,
-            args,
-            started: number,
-            ended: None,
-            failed: false,
-        })?;
-    }
+    lives.push(Life {
+        started: number,
+        ended: None,
+        failed: false,
+    })?;
     Ok(())
 }
 

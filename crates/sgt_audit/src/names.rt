@@ -16,7 +16,7 @@ use std::alloc::Global;
 pub fn entries_named<N>(alloc: Global, outcomes: &[Outcome<N>]) -> Result<Vec<u64>, NoMemory>
     ensures { IfOk result (λ named. named.items ≡ flat_map entries_of outcomes.now) }
 {
-    let mut named = Vec::new(alloc);
+    let mut named = Vec::with_capacity(alloc, outcomes.len())?;
     for outcome in outcomes {
         if let Some(n) = entry_of(outcome) {
             named.push(n)?;
@@ -45,7 +45,7 @@ pub fn transactions_named<N>(
 ) -> Result<Vec<u64>, NoMemory>
     ensures { IfOk result (λ named. named.items ≡ flat_map (transactions_of history.now.entries) outcomes.now) }
 {
-    let mut named = Vec::new(alloc);
+    let mut named = Vec::with_capacity(alloc, outcomes.len())?;
     for outcome in outcomes {
         add_named_by(&mut named, history, outcome)?;
     }

@@ -42,7 +42,7 @@ fn stands<N>(history: &History, lives: &[Life], job: &Job, outcome: &Outcome<N>,
     match outcome {
         Outcome::Done(n) => is_committed(history, lives, job, *n),
         Outcome::Asked(n) => is_asked(history, lives, job, *n),
-        Outcome::Gave(attempts) => gave_up(lives, tries, job, attempts.as_slice()),
+        Outcome::Gave(attempts) => gave_up(history, lives, tries, job, attempts.as_slice()),
         Outcome::Refused(n) => is_refused(history, job, *n),
         Outcome::Left(_) | Outcome::Untaken | Outcome::NoMemory => true,
     }
@@ -54,7 +54,7 @@ fn is_committed(history: &History, lives: &[Life], job: &Job, n: u64) -> bool
     ensures { IsTrue result ↔ Ends is_commit history.now.entries job.now n }
 {
     match history.get_entry(n as usize) {
-        Some(entry) => entry.is_commit() && names_one_of(&entry, lives, job),
+        Some(entry) => entry.is_commit() && names_one_of(history, &entry, lives, job),
         None => false,
     }
 }
@@ -65,7 +65,7 @@ fn is_asked(history: &History, lives: &[Life], job: &Job, n: u64) -> bool
     ensures { IsTrue result ↔ Ends is_raised history.now.entries job.now n }
 {
     match history.get_entry(n as usize) {
-        Some(entry) => entry.is_raised() && names_one_of(&entry, lives, job),
+        Some(entry) => entry.is_raised() && names_one_of(history, &entry, lives, job),
         None => false,
     }
 }
@@ -75,7 +75,7 @@ fn is_refused(history: &History, job: &Job, n: u64) -> bool
     ensures { IsTrue result ↔ StartIsRefused history.now.entries job.now n }
 {
     match history.get_entry(n as usize) {
-        Some(entry) => entry.refuses_start() && requests(&entry.event(), job),
+        Some(entry) => entry.refuses_start() && requests(&entry, job),
         None => false,
     }
 }

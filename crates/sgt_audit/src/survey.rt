@@ -31,13 +31,14 @@ pub struct Survey {
 }
 
 /// Makes one pass over the history. It returns none if after an entry more transactions are live than there are workers,
-/// or some at the end.
+/// or some at the end. It reserves a row for each of so many jobs.
 ///
 /// `NoMemory` if an allocation failed.
 pub fn make_survey(
     alloc: Global,
     history: &History,
     workers: u32,
+    jobs: usize,
 ) -> Result<Option<Survey>, NoMemory>
     requires { (s : Configuration) × Legal s (reverse history.now.entries) }
     ensures few { IfOk result (λ found.
@@ -49,6 +50,8 @@ pub fn make_survey(
         s.ends.quits ≡ count_by (λ (e : Entry). is_quit e.reply) history.now.entries)) }
 {
     let mut lives = Vec::new(alloc);
+    // Most jobs have one transaction. If this fails, the list grows as it needs.
+    let _ = lives.reserve(jobs);
     let mut ends = Ends {
         commits: 0,
         quits: 0,

@@ -1,5 +1,6 @@
 //! An entry, read in place in the history.
 ghost use Rattle.std.specs.Prelude.{◌≡◌, ◌≤◌, ◌↔◌, false, length, IsTrue, None};
+ghost use Rattle.sgt_model.specs.declared.event.Event.TheVariants.{Start};
 ghost use Rattle.sgt_model.specs.Fates.{is_start};
 ghost use Rattle.sgt_model.specs.Questions.{named_by, started_in, over_in};
 ghost use Rattle.sgt_model.specs.Questions.{refuses_start, is_wait, is_commit, is_raised, is_quit, is_ending, reports_end};
@@ -389,6 +390,18 @@ impl<'a> EntryRef<'a> {
         }
     }
 
+    /// Whether its event starts this procedure with these arguments.
+    pub fn is_start_of(&self, procedure: u16, args: &[i64]) -> bool
+        ensures { IsTrue result ↔ (self.now.event ≡ Start procedure args.now) }
+    {
+        match self.stored.event {
+            StoredEvent::Start { procedure: own, .. } => {
+                own == procedure && are_same_values(self.args(), args)
+            }
+            _ => false,
+        }
+    }
+
     // The arguments of its event.
     pub(crate) fn args(&self) -> &'a [i64]
         ensures args { result.now ≡ args_in self.now.event }
@@ -424,7 +437,16 @@ impl<'a> EntryRef<'a> {
 fn are_same_values(values: &[i64], others: &[i64]) -> bool
     ensures { IsTrue result ↔ (values.now ≡ others.now) }
 {
-    values == others
+    if values.len() != others.len() {
+        return false;
+    }
+    // Most lists have one or two values.
+    for i in 0..values.len() {
+        if values[i] != others[i] {
+            return false;
+        }
+    }
+    true
 }
 
 // Whether both lists have the same items.

@@ -1,20 +1,24 @@
+use Rattle.std.proofs.Common.{reverse, sym, ap, ◌∙◌}
+use Rattle.std.proofs.lemmas.List.{reverse-reverse}
 use Rattle.std.proofs.lemmas.Bool.{false≢true}
+use Rattle.sgt_audit.specs.Lives.{call_started}
 use Rattle.sgt_audit.proofs.RowFacts.{lent, not_lent, unstarted, is_of}
 use Rattle.sgt_audit.proofs.attempts.is_of.Goals as goal
 
 pub returns-in-Some : goal.returns-in-Some
-returns-in-Some c past are =
+returns-in-Some c are =
     let lives = c.args.lives.now in
     let life = c.in-Some.life.now in
     let there = c.in-Some.ensures.lookup in
-    let row = is_of past lives are c.args.job.now c.args.t life
+    let row = is_of (reverse c.args.history.now.entries) lives are c.args.job.now c.args.t life
     (lent lives c.t.inside.0 c.args.t life there.3.0 there.1 c.t.view_is) in
-    ((λ t. row.1 (c.is_call.ensures.0 t)), λ of. c.is_call.ensures.1 (row.0 of))
+    let same = ap (λ h. call_started h life.started) (reverse-reverse c.args.history.now.entries) in
+    ((λ t. row.1 (same ∙ c.is_started_for.ensures.0 t)), λ of. c.is_started_for.ensures.1 (sym same ∙ row.0 of))
 
 pub returns-in-None : goal.returns-in-None
-returns-in-None c past are =
+returns-in-None c are =
     let lives = c.args.lives.now in (
       (λ t. absurd (false≢true t)),
-      λ of. absurd (unstarted past lives are c.args.job.now c.args.t
+      λ of. absurd (unstarted (reverse c.args.history.now.entries) lives are c.args.job.now c.args.t
           (not_lent lives c.t.inside.0 c.args.t c.in-None.ensures.lookup.3 c.t.view_is) of),
     )
