@@ -40,38 +40,39 @@ pub fn step_in_hold<N: Named, R: Records, A: Accesses, G: Graph, W: Wait>(
     ensures spare { OnOk result (receipts.new.spare + 1 ≡ receipts.old.spare) }
     ensures unchanged { OnErr result ((mine.new ≡ mine.old) × (receipts.new ≡ receipts.old)) }
 {
-    // Most calls find the lock free. Then they have no turn to keep.
+    // Most calls find the lock free. Then they have no turn to keep, and their event is not stored.
     match shared.lock_policy.try_lock(&shared.round, &capacity) {
         Some(mut round) => {
             let kind = round.apply(&Event::Step(t), mine, receipts)?;
             Ok(kind)
         }
-        None => make_in_turn(rt, shared, &Event::Step(t), mine, receipts, capacity),
+        None => step_in_turn(rt, shared, t, mine, receipts, capacity),
     }
 }
 
-// Makes any event in this way. A step does so if it found the lock taken.
+// Makes a step that found the lock taken. An event made for it by its caller would be stored at each step.
 #[cold]
 #[inline(never)]
-fn make_in_turn<N: Named, R: Records, A: Accesses, G: Graph, W: Wait>(
+fn step_in_turn<N: Named, R: Records, A: Accesses, G: Graph, W: Wait>(
     rt: &W,
     shared: &Shared<N, R, A, G>,
-    event: &Event,
+    t: Tid,
     mine: &mut Share<N>,
     receipts: &mut Receipts,
     capacity: ReceiptCapacity,
 ) -> Result<StepKind, NoMemory>
     requires part { 0 < mine.old.parts }
     requires spare { 0 < receipts.old.spare }
-    ensures filed { IfOk result (λ kind. (r : Receipt) × (r.event ≡ event.now)
+    ensures filed { IfOk result (λ kind. (r : Receipt) × (r.event ≡ Step t)
         × (receipts.new.receipts ≡ receipts.old.receipts ++ r ∷ []) × IsOfKind kind (entry_of r)) }
     ensures counted { OnOk result (mine.new.amount ≡ mine.old.amount + 1) }
     ensures parts { mine.new.parts ≡ mine.old.parts }
     ensures spare { OnOk result (receipts.new.spare + 1 ≡ receipts.old.spare) }
     ensures unchanged { OnErr result ((mine.new ≡ mine.old) × (receipts.new ≡ receipts.old)) }
 {
-    let (turn, mut round) = shared.lock_policy.lock(rt, &shared.round, event, capacity);
-    let kind = round.apply(event, mine, receipts)?;
+    let event = Event::Step(t);
+    let (turn, mut round) = shared.lock_policy.lock(rt, &shared.round, &event, capacity);
+    let kind = round.apply(&event, mine, receipts)?;
     drop(round);
     drop(turn);
     Ok(kind)
