@@ -1,6 +1,6 @@
 -- Receipts as numbers beside entries.
 use Rattle.std.proofs.Common.{◌≡◌, ℕ, zero, suc, ◌+◌, ◌<◌, List, [], ◌∷◌, ◌++◌, length, Some, slice_get, reverse, refl, sym, ap, ◌∙◌, arith}
-use Rattle.std.proofs.lemmas.List.{length-append, reverse-reverse, reverse-append, length-reverse}
+use Rattle.std.proofs.lemmas.List.{reverse-reverse, reverse-append, length-reverse}
 use Rattle.std.specs.Option.{option_map}
 use Rattle.sgt_model.specs.declared.entry.Entry.{Entry}
 use Rattle.sgt_session.specs.declared.receipt.Receipt.{Receipt}
@@ -48,16 +48,6 @@ receipts-more [] (d ∷ es) n e same = absurd (omega (arith, same))
 receipts-more (m ∷ ns) [] n e same = absurd (omega (arith, same))
 receipts-more (m ∷ ns) (d ∷ es) n e same = ap (λ rs. receipt_of m d ∷ rs) (receipts-more ns es n e (omega (arith, same)))
 
-pub no-items : {X : Type 0} (xs : List X) → length xs ≡ 0 → xs ≡ []
-no-items [] none = refl
-no-items (x ∷ xs) none = absurd (omega (arith, none))
-
--- no numbers, no receipts
-pub receipts-none : (ns : List ℕ) (es : List Entry) → length ns ≡ length es → receipts_of ns es ≡ [] → ns ≡ []
-receipts-none [] es same none = refl
-receipts-none (n ∷ ns) [] same none = absurd (omega (arith, same))
-receipts-none (n ∷ ns) (e ∷ es) same none = absurd cc
-
 at-the-end : {X : Type 0} (xs : List X) (x : X) → slice_get (xs ++ x ∷ []) (length xs) ≡ Some x
 at-the-end [] x = refl
 at-the-end (y ∷ xs) x = at-the-end xs x
@@ -74,17 +64,6 @@ newest history past e is =
       omega (arith, long, counted),
       rw (in-order history past e is) (ap (slice_get (reverse past ++ e ∷ [])) (sym (length-reverse past)) ∙ at-the-end (reverse past) e),
     )
-
--- the entry of the last receipt
-pub last_filed : (ns : List ℕ) (es : List Entry) (receipts rs : List Receipt) (r : Receipt) (place : ℕ) → length ns ≡ length es
-    → receipts_of ns es ≡ receipts → receipts ≡ rs ++ r ∷ [] → place + 1 ≡ length receipts → slice_get es place ≡ Some (entry_of r)
-last_filed ns es receipts rs r place same seen is count =
-    let long = ap length is ∙ length-append rs (r ∷ []) in
-    let at : place ≡ length rs = omega (arith, long, count) in
-    sym (receipts-entry ns es place same)
-    ∙ ap (λ l. option_map entry_of (slice_get l place)) (seen ∙ is)
-    ∙ ap (λ n. option_map entry_of (slice_get (rs ++ r ∷ []) n)) at
-    ∙ ap (option_map entry_of) (at-the-end rs r)
 
 -- an item within a list
 pub there_is : {X : Type 0} (xs : List X) (n : ℕ) → n < length xs → (x : X) × (slice_get xs n ≡ Some x)

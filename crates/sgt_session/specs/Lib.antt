@@ -2,6 +2,7 @@
 pub mod Configurations
 -- receipts, and what they say of a history
 pub mod Receipts
+pub mod Numbers
 pub mod Accounts
 -- what a session knows of the transactions that it started
 pub mod Own

@@ -110,6 +110,7 @@ mod hold;
 mod lock_policy;
 mod named;
 mod new;
+mod numbers;
 mod own;
 mod receipt;
 mod receipts;

@@ -7,8 +7,9 @@ ghost use Rattle.sgt_session.specs.declared.receipt.Receipt.{Receipt};
 ghost use Rattle.sgt_log.specs.StepKinds.{IsOfKind};
 ghost use Rattle.sgt_session.specs.Receipts.{receipt_of, entry_of, IsReceiptAt};
 
+use crate::numbers::Numbers;
 use crate::receipt::Receipt;
-use sgt_log::{EntryRef, History, StepKind, prefault_ahead};
+use sgt_log::{EntryRef, History, StepKind};
 use sgt_model::NoMemory;
 use std::alloc::Global;
 use std::marker::Model;
@@ -20,14 +21,14 @@ const AT_ONCE: usize = 65_536;
 /// the lists long enough to grow without being copied.
 const AHEAD: usize = 2_048;
 
-/// The receipts of one session, in the order of its calls. The receipt of a step, a start or a commit takes 32 bytes,
-/// another one 72. Its lists take 4 bytes for each transaction and 8 for each value.
+/// The receipts of one session, in the order of its calls. The receipt of a step, a start or a commit takes 24 bytes,
+/// another one 64, and 8 more if the session is not alone. Its lists take 4 bytes for each transaction and 8 for each value.
 ///
 /// There is capacity for some more receipts, whatever they hold: appending one uses that capacity, and allocates
 /// nothing.
 #[derive(Drop)]
 pub struct Receipts {
-    numbers: Vec<u64>,
+    numbers: Numbers,
     // The entries that have these numbers.
     calls: History,
     // How many more receipts there is capacity for.
@@ -38,7 +39,6 @@ pub struct Receipts {
 
 impl Model for Receipts {
     ghost use Rattle.std.specs.Prelude.{◌≡◌, ◌+◌, ◌≤◌, length};
-    ghost use Rattle.std.specs.Vec.{vec_len, vec_capacity};
     ghost use Rattle.sgt_session.specs.Receipts.{ReceiptsView, receipts_of};
 
     ghost Value = { ReceiptsView };
@@ -50,7 +50,7 @@ impl Model for Receipts {
 
     ghost invariant = { λ r.
         (length r.numbers.items ≡ length r.calls.entries)
-        × (vec_len r.numbers + r.spare ≤ vec_capacity r.numbers)
+        × (length r.numbers.items + r.spare ≤ r.numbers.capacity)
         × (r.spare ≤ r.calls.spare) };
 }
 
@@ -60,7 +60,7 @@ impl Receipts {
         ensures { result ≡ record { receipts = []; spare = 0 } }
     {
         Receipts {
-            numbers: Vec::new(alloc),
+            numbers: Numbers::new(alloc),
             calls: History::new(alloc),
             spare: 0,
             prefaulted: 0,
@@ -78,7 +78,7 @@ impl Receipts {
     pub fn is_empty(&self) -> bool
         ensures { IsTrue result ↔ (self.now.receipts ≡ []) }
     {
-        self.numbers.is_empty()
+        self.len() == 0
     }
 
     /// The receipt at an index.
@@ -88,7 +88,7 @@ impl Receipts {
     {
         let entry = self.calls.at(place);
         Receipt {
-            number: self.numbers[place],
+            number: self.numbers.at(place),
             event: entry.event,
             reply: entry.reply,
         }
@@ -110,7 +110,7 @@ impl Receipts {
         requires { place < length self.now.receipts }
         ensures { option_map (λ (r : Receipt). r.number) (slice_get self.now.receipts place) ≡ Some result }
     {
-        self.numbers[place]
+        self.numbers.at(place)
     }
 
     /// The entry of the receipt at an index, by reference.
@@ -130,23 +130,17 @@ impl Receipts {
         ensures fits { 0 < result → place + result < 2 ^ 64 }
     {
         let left = self.len().saturating_sub(place);
+        if left == 0 {
+            return 0;
+        }
         let most = (history.len() - number).min(left);
-        for k in 0..most {
-            if !self.is_at(place + k, history, number + k) {
+        let count = self.numbers.following(place, number, most);
+        for k in 0..count {
+            if !self.calls.is_same_at(place + k, history, number + k) {
                 return k;
             }
         }
-        most
-    }
-
-    // Whether the receipt at an index is that of a history's entry with this number.
-    #[inline(always)]
-    fn is_at(&self, place: usize, history: &History, number: usize) -> bool
-        requires here { place < length self.now.receipts }
-        requires there { number < length history.now.entries }
-        ensures { IsTrue result → IsReceiptAt self.now.receipts place history.now.entries number }
-    {
-        self.numbers[place] == number as u64 && self.calls.is_same_at(place, history, number)
+        count
     }
 
     /// The newest receipt of a list that is not empty.
@@ -222,7 +216,7 @@ impl Receipts {
         ensures { self.new ≡ self.old }
     {
         if self.numbers.len() >= self.prefaulted {
-            let numbers = prefault_ahead(&mut self.numbers, AT_ONCE, 0);
+            let numbers = self.numbers.prefault(AT_ONCE);
             self.prefaulted = self.calls.prefault(AT_ONCE).min(numbers);
         }
     }
@@ -239,7 +233,7 @@ impl Receipts {
         ensures spare { self.new.spare + 1 ≡ self.old.spare }
     {
         let place = history.len() - 1;
-        self.numbers.push_reserved(place as u64);
+        self.numbers.push(place);
         let kind = self.calls.push_copy(history, place);
         self.spare -= 1;
         kind

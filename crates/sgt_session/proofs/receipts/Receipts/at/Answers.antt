@@ -1,5 +1,4 @@
-use Rattle.std.proofs.Common.{◌≡◌, Some, slice_get, length, sym, ap, ◌∙◌, arith}
-use Rattle.std.proofs.lemmas.Option.{slice_get-get_or}
+use Rattle.std.proofs.Common.{slice_get, length, sym, ap, ◌∙◌, arith}
 use Rattle.sgt_session.proofs.Filed.{receipts-length, receipts-at}
 use Rattle.sgt_session.proofs.receipts.Receipts.at.Goals as goal
 
@@ -11,11 +10,6 @@ at-entry-requires c =
 
 pub returns : goal.returns
 returns c =
-    let long = receipts-length c.self.inside.numbers.items c.self.inside.calls.entries c.self.invariant.0 in
-    let is = ap (λ r. length r.receipts) c.self.view_is in
-    let number : slice_get c.self.inside.numbers.items c.args.place ≡ Some c.index.result.now =
-    slice_get-get_or c.self.inside.numbers.items c.args.place c.index.result.now (omega (arith, long, is, c.requires))
-    ∙ ap Some (sym c.index.ensures) in
     sym (ap (λ r. slice_get r.receipts c.args.place) c.self.view_is)
-    ∙ receipts-at c.self.inside.numbers.items c.self.inside.calls.entries c.args.place c.index.result.now c.at-entry.result number
+    ∙ receipts-at c.self.inside.numbers.items c.self.inside.calls.entries c.args.place c.at.result c.at-entry.result c.at.ensures
     c.at-entry.ensures.entry

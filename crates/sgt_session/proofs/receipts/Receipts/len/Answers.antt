@@ -6,4 +6,4 @@ pub returns : goal.returns
 returns c =
     let long = receipts-length c.self.inside.numbers.items c.self.inside.calls.entries c.self.invariant.0 in
     let is = ap (λ r. length r.receipts) c.self.view_is in
-    omega (arith, long, is, c.len.ensures, c.self.inside.numbers.ok.0)
+    omega (arith, long, is, c.len.ensures)

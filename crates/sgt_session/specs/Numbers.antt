@@ -1,0 +1,16 @@
+-- The numbers of the entries of a session's receipts.
+use Rattle.std.specs.Prelude.{ℕ, zero, suc, ◌+◌, Bool, List, [], ◌∷◌, ◌++◌, cond}
+
+-- so many numbers, counting up from this one
+abbrev pub counted : ℕ → ℕ → List ℕ
+counted first zero = []
+counted first (suc n) = counted first n ++ (first + n) ∷ []
+
+-- all that are listed, or else so many, counting up from the first one
+abbrev pub numbers_of : Bool → List ℕ → ℕ → ℕ → List ℕ
+numbers_of is_listed listed first count = cond is_listed listed (counted first count)
+
+-- what callers see: the numbers, and for how many there is memory
+pub record NumbersView : Type 0 where
+  pub items : List ℕ
+  pub capacity : ℕ
