@@ -18,7 +18,6 @@ import fcntl
 import hashlib
 import json
 import marshal
-import multiprocessing
 import os
 import pathlib
 import random
@@ -53,6 +52,7 @@ from front import AT_ONCE, FRONTS, OTHER_FILES, PART, Front  # noqa: E402
 from hundred_partitions import SHARES, Simulation, accounts_of, partition_of  # noqa: E402
 from journal import Fenced, Store, store, unseal  # noqa: E402
 from lines import LONGEST, Reader  # noqa: E402
+from link import receive, send  # noqa: E402
 from sgt import Kind, pack_calls, unpack_calls  # noqa: E402
 
 SECONDS = 600  # of a command, a reply or an end: what comes takes less on any machine
@@ -279,6 +279,19 @@ def replies():
         procedures = f"# batch 1: from here on with the procedures {', '.join(sorted(PROCEDURES))}"
         same("show", [procedures, "2 pay id=17 from=1 to=2 amount=250", "10 open open=9 amount=70"], [shown[0], shown[2], shown[10]])
     return f"{len(wanted) + len(opened) + len(more)} replies"
+
+
+def page():
+    """What the page shows of a client, of `show` and of `verify` is what comes, but for the day."""
+    blocks = (PAYMENTS / "README.md").read_text().split("```")[1::2]
+    (client,), (operator,) = ([it.strip().splitlines() for it in blocks if f"\n$ {word}" in it] for word in ("nc 127.0.0.1", "examples/payments/payments.py show"))
+    with scratch() as folder, Server("serve", folder / "j") as server:
+        asked(server, [(json.loads(request), json.loads(reply)) for request, reply in zip(client[1::2], client[2::2])])
+        came = (run("show", folder / "j")[1] + run("verify", folder / "j")[1]).splitlines()
+        wanted = [re.escape(it).replace(re.escape(", .., "), ".*") for it in operator if not it.startswith("$")]
+        if len(came) != len(wanted) or not all(map(re.fullmatch, [re.sub(r"arg=\d+", r"arg=\\d+", it) for it in wanted], came)):
+            raise Differs(f"the page shows {wanted}, and what comes is {came}")
+    return f"{len(client) // 2} requests, {len(came)} lines"
 
 
 def administration():
@@ -1306,7 +1319,7 @@ def vanished_clients():
 def front_alone():
     """What a front process does, in this process; the server's end of its connection; and where it listens."""
     procedures = load_procedures(PAYMENTS / "procedures")
-    own, server = multiprocessing.Pipe()
+    own, server = socket.socketpair()
     with socket.create_server(("127.0.0.1", 0)) as listener:
         front = Front([listener], own, Reader(procedures, None, False), 60, None)
         front.numbers = {name: number for number, name in enumerate(procedures)}
@@ -1329,10 +1342,10 @@ def leaving_clients():
             wait_until(lambda: not select.select([first], (), (), 0.5)[0], "a front that waits")
             with socket.create_connection(address, timeout=SECONDS) as last:
                 last.sendall(b'{"balance":3}\n')
-                calls = unpack_calls(marshal.loads(server.recv_bytes())[0])
+                calls = unpack_calls(marshal.loads(receive(server))[0])
                 same("the calls", [(front.numbers["balance"], account) for account in (1, 2, 3)], sorted(calls))
                 outcomes = [OUTCOME.pack(Kind.COMMITTED, 0, 1, 10 * account, *[0] * 7) for _, account in calls]
-                server.send_bytes(b"".join(outcomes) + marshal.dumps(([], "")))
+                send(server, b"".join(outcomes) + marshal.dumps(([], "")))
                 turn.join()
                 for number, client in ((1, first), (3, last)):
                     same(f"the reply to client {number}", b'{"balance": %d, "has": %d}\n' % (number, 10 * number), client.recv(1000))
@@ -1370,6 +1383,19 @@ def many_lines():
         if not 0 < lines <= AT_ONCE * PART / len(b'{"balance":1}'):
             raise Differs(f"the front has {lines} lines in memory")
     return f"{lines} of {count * 4_000} lines are heard at once"
+
+
+def full_fronts():
+    """A front that has as many clients as it may takes the next one when one has gone, and none before."""
+    with front_alone() as (front, _, address), contextlib.ExitStack() as stack:
+        front.most, clients = 2, [stack.enter_context(socket.create_connection(address)) for _ in range(3)]
+        wait_until(lambda: front.accept(front.listeners[0]), "a client that is accepted")
+        for client in clients:
+            client.sendall(b'{"balance":1}\n' * 2)
+        heard = {client for _ in range(2) for client, _ in front.wait()}
+        same("clients that are heard, and that there are", (2, 2), (len(heard), len(front.clients)))
+        front.drop(heard.pop())
+        same("clients that are heard then, and that there are", (1, 2), (len(front.wait()), len(front.clients)))
 
 
 def is_dropped(client):
@@ -1673,18 +1699,18 @@ def takes_a_copy(group):
     return ""
 
 
-def ended_while_away():
-    """SIGTERM ends servers while etcd is away: a primary whose clients wait, and a follower."""
-    if why := Etcd.missing():
+def ends_while_away(kind):
+    """While the journal is away a follower answers, and SIGTERM ends it, and a primary whose clients wait."""
+    if why := kind.missing():
         return f"left out: {why}"
-    with scratch() as folder, running(Etcd, folder) as etcd, contextlib.ExitStack() as stack:
-        group = Group(etcd, folder, stack, LEASE=SECONDS)  # so that the primary stays it
+    with scratch() as folder, running(kind, folder) as journal, contextlib.ExitStack() as stack:
+        group = Group(journal, folder, stack, LEASE=SECONDS)  # so that the primary stays it
         primary = group.primary()
         shutil.copytree(PAYMENTS / "procedures", folder / "other")
         (folder / "other" / "note.json").unlink()
-        words = ("serve", folder / "new", "--journal", etcd.address, "--procedures", folder / "other")
-        same("whether other procedures are refused", True, is_refused("these procedures are not those of the journal: note. ", *words, python=etcd.python))
-        with etcd.stopped(0, 1, 2), group.servers[primary].connect() as client:
+        words = ("serve", folder / "new", "--journal", journal.address, "--procedures", folder / "other")
+        same("whether other procedures are refused", True, is_refused("these procedures are not those of the journal: note. ", *words, python=journal.python))
+        with journal.silent(), group.servers[primary].connect() as client:
             client.sendall(json.dumps(pay(1, 1, 2, 5)).encode() + b"\n")
             follower = group.servers[(primary + 1) % 3]
             wait_until(lambda: "the journal is away" in group.health((primary + 1) % 3)["health"], "a follower that says that the journal is away")
@@ -1694,6 +1720,17 @@ def ended_while_away():
             if status != 1 or "the journal is away" not in error:
                 raise Differs(f"the end of the primary: {status} {error}")
             same("what its client has", b"", client.recv(100))
+    return None
+
+
+def ended_while_away():
+    """Over etcd, all of whose nodes are stopped."""
+    return ends_while_away(Etcd)
+
+
+def hung_redis():
+    """Over a Redis that is stopped."""
+    return ends_while_away(Redis)
 
 
 def kill_primary(group, primary, load):
@@ -2015,24 +2052,39 @@ def postgresql_standby():
     raise Differs("a payment was acknowledged, and the standby is away")
 
 
+# A program that leads a journal in Redis, and writes whether its first batch is safe.
+APPENDS = """
+import sys
+sys.path.insert(0, sys.argv[1])
+from urllib.parse import urlsplit
+from journal import Away
+from redis_journal import RedisJournal
+journal = RedisJournal(urlsplit(sys.argv[2]))
+try:
+    print(journal.lead())
+    journal.append(1, b"x")
+    print("safe")
+except Away as why:
+    print(why)
+"""
+
+
 def redis_replicas():
-    """Where a replica is asked for, nothing is acknowledged before there is one."""
+    """Where a replica is asked for, no batch is safe before there is one, and a server waits for it."""
     if why := Redis.missing():
         return f"left out: {why}"
     with scratch() as folder, running(Redis, folder) as journal, contextlib.ExitStack() as stack:
+        address = journal.address + "?replicas=1"
+
+        def said():
+            words = [journal.python, "-c", APPENDS, PAYMENTS, address.replace("/bank", "/other")]
+            return subprocess.run(words, capture_output=True, text=True, timeout=SECONDS, check=False).stdout
+
+        # On a slow machine Redis may be late, and an earlier program may lead still.
+        wait_until(lambda: (last := said()) == "True\nRedis: too few replicas have the batch\n" or same("whether it is safe", False, "safe" in last), "too few replicas")
         (folder / "replica").mkdir()
-        begun = []
-
-        def begin():
-            begun.append(True)
-            stack.enter_context(running(Redis, folder / "replica", "--replicaof", "127.0.0.1", str(journal.port)))
-
-        replica = threading.Timer(1, begin)
-        replica.start()
-        stack.callback(replica.join)
-        words = ("serve", folder / "j", "--journal", journal.address + "?replicas=1")
-        with Server(*words, python=journal.python, **adjusted(**NEVER)) as server:
-            same("whether a replica was begun", [True], begun)
+        stack.enter_context(running(Redis, folder / "replica", "--replicaof", "127.0.0.1", str(journal.port)))
+        with Server("serve", folder / "j", "--journal", address, python=journal.python, **adjusted(**NEVER)) as server:
             same("a payment", {"paid"}, {"paid"} & set(server.ask(pay(1, 1, 2, 5))[0]))
 
 
@@ -2066,12 +2118,12 @@ def main():
         return nodes_die(rounds, seed)
 
     crash_test.__name__, dying_nodes.__name__ = "crashes", "nodes_die"
-    cases = [sizes, replies, holds, owing, statements, forgotten, removals, lists, tokens, tls, second_server, between_partitions, hundred_partitions, administration]
+    cases = [sizes, replies, page, holds, owing, statements, forgotten, removals, lists, tokens, tls, second_server, between_partitions, hundred_partitions, administration]
     cases += [torn_tails, damaged_tails, damage, newest_file_gone, forged_journal]
     cases += [full_disk, failing_fsync, large_snapshots, pieces, deletions, failed_snapshot, little_space, renewals, huge_pages, begun_snapshots]
     cases += [jumping_clock, other_procedures, bad_procedures]
-    cases += [killed_fronts, vanished_clients, leaving_clients, slow_clients, many_lines, idle_clients]
-    cases += [promotion, forks, asked_node, over_etcd, dying_nodes, ended_while_away, partitions, over_redis, forgetful_redis, redis_replicas, over_postgresql, forgetful_postgresql, postgresql_standby, crash_test]
+    cases += [killed_fronts, vanished_clients, leaving_clients, slow_clients, many_lines, full_fronts, idle_clients]
+    cases += [promotion, forks, asked_node, over_etcd, dying_nodes, ended_while_away, partitions, over_redis, hung_redis, forgetful_redis, redis_replicas, over_postgresql, forgetful_postgresql, postgresql_standby, crash_test]
     return run_cases([case for case in cases if not names or case.__name__ in names], of="payments")
 
 

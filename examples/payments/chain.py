@@ -7,8 +7,7 @@ from typing import Any, Callable, Sequence, Union
 from bank import ROW, Bank, Call, Unusable
 from journal import Away, Journal, Store, seal, unseal
 
-PATIENCE = 60.0  # seconds that a primary waits for a journal that is away
-PAUSE = 0.05  # seconds between two times that a follower reads
+PATIENCE, PAUSE = 60.0, 0.05  # seconds that a primary waits for a journal that is away; between two times that a follower reads
 CALLS = 10_000  # of a batch, at most: no journal takes batches of any size
 Opening = dict[str, Any]  # what a batch has in place of calls: procedures, from there on; accounts and cents, if it is the first batch
 Batch = Union[list[Call], Opening]

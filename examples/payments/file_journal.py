@@ -26,8 +26,7 @@ class FileJournal:
     def lead(self) -> bool:
         """Opens the last file, and cuts off its torn tail."""
         if self._newest.is_symlink() and not self._newest.exists():
-            gone = self.folder / os.readlink(self._newest)
-            raise Unusable(f"{gone}: this file is gone, and with it what was acknowledged in it")
+            raise Unusable(f"{self.folder / os.readlink(self._newest)}: this file is gone, and with it what was acknowledged in it")
         if not self.paths():
             self._begin(1)
         path = self.paths()[-1]

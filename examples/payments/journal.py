@@ -13,10 +13,8 @@ from typing import Any, Callable, Iterable, Protocol, Sequence
 
 from bank import Bank, Unusable
 
-AT_ONCE = 200  # batches that are read
-FOLLOWING = 50_000  # batches that stay for a server that is away
-LEASE = 3  # seconds without a word of the primary, after which another server leads
-TRY = 1.5  # seconds until a request is given up
+AT_ONCE, FOLLOWING = 200, 50_000  # batches that are read; that stay for a server that is away
+LEASE, TRY = 3, 1.5  # seconds without a word of the primary, after which another server leads; until a request is given up
 BEAT = threading.Lock()  # has who renews a lease, or forks
 
 
@@ -73,8 +71,7 @@ def keep_alive(renew: Callable[[], object]) -> None:
 
 def seal(text: str) -> bytes:
     """JSON as a line without its newline, after a checksum."""
-    body = text.encode()
-    return b"%08x %b" % (zlib.crc32(body), body)
+    return b"%08x %b" % (zlib.crc32(body := text.encode()), body)
 
 
 def is_whole(line: bytes) -> bool:

@@ -115,6 +115,10 @@ class Etcd:
         with self.stopped(0, 1):
             time.sleep(seconds)
 
+    def silent(self):
+        """No node answers."""
+        return self.stopped(0, 1, 2)
+
     @contextlib.contextmanager
     def stopped(self, *numbers):
         for number in numbers:
@@ -232,9 +236,17 @@ class Redis:
         return None if python_with("redis") else "there is no python3-redis on this machine"
 
     def away(self, seconds):
+        with self.silent():
+            time.sleep(seconds)
+
+    @contextlib.contextmanager
+    def silent(self):
+        """It takes connections, and does not answer."""
         self.process.send_signal(signal.SIGSTOP)
-        time.sleep(seconds)
-        self.process.send_signal(signal.SIGCONT)
+        try:
+            yield
+        finally:
+            self.process.send_signal(signal.SIGCONT)
 
     def end(self):
         if self.process:

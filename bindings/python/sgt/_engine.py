@@ -55,7 +55,9 @@ from ._replies import (
     call_of,
     event_of,
     free_buffers,
+    outcomes_for,
     reply_of,
+    spare_outcomes,
     buffers,
     unpack_outcomes,
 )
@@ -333,9 +335,10 @@ class Engine(EngineReads):
         count, rest = divmod(len(calls), CALL_BYTES)
         if rest:
             raise BadCall(f"a call takes {CALL_BYTES} bytes")
-        outcomes, size, done = (COutcome * count)(), ctypes.c_size_t(count), ctypes.c_uint64()
+        outcomes, size, done = outcomes_for(count), ctypes.c_size_t(count), ctypes.c_uint64()
         status = self._call("sgt_run_many", bytes(calls), size, outcomes, size, ctypes.byref(done))
         ran = ctypes.string_at(outcomes, done.value * ctypes.sizeof(COutcome))
+        spare_outcomes(outcomes)
         if status == NO_MEMORY:
             raise NoMemory(unpack_outcomes(ran))
         check(status)
