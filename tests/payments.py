@@ -1385,6 +1385,22 @@ def many_lines():
     return f"{lines} of {count * 4_000} lines are heard at once"
 
 
+def greedy_clients():
+    """A client that has very many replies, as empty lines have, and takes none, is dropped. What a front has in memory has a limit."""
+    with front_alone() as (front, _, address), socket.socket() as client:
+        client.setsockopt(socket.SOL_SOCKET, socket.SO_RCVBUF, 4096)
+        client.setsockopt(socket.IPPROTO_TCP, socket.TCP_MAXSEG, 536)  # as over a network, where little is on its way
+        client.connect(address)
+        wait_until(lambda: front.accept(front.listeners[0]), "a client that is accepted")
+        for text, are_left in ((b'{"balance"}\n' * (PART // 12), 1), (b"\n" * PART, 0)):
+            client.sendall(text)
+            front.turn()
+            same(f"clients after {len(text)} bytes as {text[:12]}", are_left, len(front.clients))
+            while are_left and (it := next(iter(front.clients.values()))).unsent:
+                client.recv(1 << 16)
+                front.go_on(it)
+
+
 def full_fronts():
     """A front that has as many clients as it may takes the next one when one has gone, and none before."""
     with front_alone() as (front, _, address), contextlib.ExitStack() as stack:
@@ -1552,6 +1568,60 @@ def promotion():
             raise Differs("a primary that was replaced has appended a batch")
         new.append(['["day", 20001]'])
         same("the last batch", [4, 2, [["day", 20_001]]], unseal(journal.batches[-1]))
+
+
+# A program of two servers that speak to a journal. The first one leads, and says nothing for as long as a lease: then the second one leads,
+# and deletes what both have snapshots of. What is written is whether the next batch of the first one is safe.
+FENCES = """
+import argparse, pathlib, sys, time
+sys.path.insert(0, sys.argv[1])
+from journal import BEAT, Fenced
+from payments import open_journal
+old, new = (open_journal(argparse.Namespace(journal=sys.argv[2], folder=pathlib.Path("none"), keep=True)) for _ in range(2))
+while not old.lead():
+    time.sleep(0.1)
+old.append(1, b"1")
+with BEAT:  # so no lease is renewed
+    while not new.lead():
+        time.sleep(0.1)
+for number in (2, 3):
+    new.append(number, b"new")
+new.stored("new", 3, 4)
+try:
+    old.append(2, b"old")
+    print("safe")
+except Fenced:
+    print("fenced")
+"""
+
+
+def fences(kind):
+    """A primary that was replaced is fenced, also where the batches of the new one are deleted already."""
+    if why := kind.missing():
+        return f"left out: {why}"
+    for _ in range(10):  # on a slow machine the journal may be late, or the second server be replaced, too
+        with scratch() as folder, running(kind, folder) as journal:
+            words = [journal.python, "-c", FENCES, PAYMENTS, journal.address]
+            ran = subprocess.run(words, capture_output=True, text=True, timeout=SECONDS, check=False)
+        if ran.stdout:
+            break
+    same("the next batch of a primary that was replaced", ("fenced\n", ""), (ran.stdout, ran.stderr))
+    return None
+
+
+def fenced_over_etcd():
+    """Its comparison with the leader fences."""
+    return fences(Etcd)
+
+
+def fenced_over_redis():
+    """A stream refuses the numbers of its past, too."""
+    return fences(Redis)
+
+
+def fenced_over_postgresql():
+    """The row of the leader fences."""
+    return fences(Postgres)
 
 
 # A program that asks etcd once, and writes which node it has asked.
@@ -2122,8 +2192,8 @@ def main():
     cases += [torn_tails, damaged_tails, damage, newest_file_gone, forged_journal]
     cases += [full_disk, failing_fsync, large_snapshots, pieces, deletions, failed_snapshot, little_space, renewals, huge_pages, begun_snapshots]
     cases += [jumping_clock, other_procedures, bad_procedures]
-    cases += [killed_fronts, vanished_clients, leaving_clients, slow_clients, many_lines, full_fronts, idle_clients]
-    cases += [promotion, forks, asked_node, over_etcd, dying_nodes, ended_while_away, partitions, over_redis, hung_redis, forgetful_redis, redis_replicas, over_postgresql, forgetful_postgresql, postgresql_standby, crash_test]
+    cases += [killed_fronts, vanished_clients, leaving_clients, slow_clients, many_lines, greedy_clients, full_fronts, idle_clients]
+    cases += [promotion, fenced_over_etcd, fenced_over_redis, fenced_over_postgresql, forks, asked_node, over_etcd, dying_nodes, ended_while_away, partitions, over_redis, hung_redis, forgetful_redis, redis_replicas, over_postgresql, forgetful_postgresql, postgresql_standby, crash_test]
     return run_cases([case for case in cases if not names or case.__name__ in names], of="payments")
 
 

@@ -20,6 +20,7 @@ from sgt import pack_calls
 FRONTS = 3  # processes: each waits while the server runs what it has asked, so they are more than are busy at a time
 # Clients of a front, or fewer if it may open fewer files: others wait until one has gone, or another front takes them. And its other files.
 CLIENTS, OTHER_FILES = 1000, 32
+UNTAKEN = 1 << 18  # bytes of replies that a client may leave. What it is heard of at once has less, unless it is mostly no requests
 AT_ONCE, PART, PAUSE = 64, 16_384, 0.05  # at most: how many clients a front hears at once, bytes of each, and seconds in which it waits for more
 
 
@@ -123,6 +124,8 @@ class Front:
         try:
             if client.unsent:
                 client.unsent = client.unsent[client.link.send(client.unsent) :]
+                if len(client.unsent) > UNTAKEN:
+                    raise ConnectionResetError
             else:
                 lines = self.hear(client, client.link.recv(PART))
         except (BlockingIOError, ssl.SSLWantReadError, ssl.SSLWantWriteError):

@@ -15,12 +15,10 @@ from bank import Unusable
 from journal import AT_ONCE, LEASE, Away, Fenced, from_number, keep_alive, needed
 
 AT_SAME_TIME = {"23505", "42P07", "42710"}  # codes of errors where two servers make the tables at the same time: there is one already
-TABLES = """
-set synchronous_commit = on; create table if not exists batch (number bigint primary key, data bytea not null);
+TABLES = """set synchronous_commit = on; create table if not exists batch (number bigint primary key, data bytea not null);
 create table if not exists leader (only_row boolean primary key, nonce text not null, until timestamptz not null);
 create table if not exists stored (server text primary key, number bigint not null); show fsync"""
-LEAD = f"""
-insert into leader values (true, %(nonce)s, now() + interval '{LEASE} s') on conflict (only_row)
+LEAD = f"""insert into leader values (true, %(nonce)s, now() + interval '{LEASE} s') on conflict (only_row)
 do update set nonce = excluded.nonce, until = excluded.until where leader.until < now() or leader.nonce = excluded.nonce returning 1"""
 RENEW = f"update leader set until = now() + interval '{LEASE} s' where nonce = %(nonce)s returning 1"
 APPEND = """

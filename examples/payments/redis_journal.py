@@ -14,8 +14,7 @@ from bank import Unusable
 from journal import AT_ONCE, LEASE, TRY, Away, Fenced, from_number, keep_alive, needed
 
 RENEW = "return redis.call('get', KEYS[1]) == ARGV[1] and redis.call('pexpire', KEYS[1], ARGV[2])"
-APPEND = """
-if redis.call('get', KEYS[1]) ~= ARGV[1] then return 0 end
+APPEND = """if redis.call('get', KEYS[1]) ~= ARGV[1] then return 0 end
 local there = redis.call('xrange', KEYS[2], ARGV[2], ARGV[2])[1] if there then return there[2][2] == ARGV[3] and 1 or 0 end
 return redis.call('xadd', KEYS[2], ARGV[2], 'batch', ARGV[3]) and 1"""
 
