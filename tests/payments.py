@@ -1580,7 +1580,8 @@ from payments import open_journal
 old, new = (open_journal(argparse.Namespace(journal=sys.argv[2], folder=pathlib.Path("none"), keep=True)) for _ in range(2))
 while not old.lead():
     time.sleep(0.1)
-old.append(1, b"1")
+for _ in range(2):  # again, as after a reply that was lost
+    old.append(1, b"1")
 with BEAT:  # so no lease is renewed
     while not new.lead():
         time.sleep(0.1)
@@ -1770,7 +1771,7 @@ def takes_a_copy(group):
 
 
 def ends_while_away(kind):
-    """While the journal is away a follower answers, and SIGTERM ends it, and a primary whose clients wait."""
+    """While the journal is away clients of the primary wait, and a follower answers. SIGTERM ends both."""
     if why := kind.missing():
         return f"left out: {why}"
     with scratch() as folder, running(kind, folder) as journal, contextlib.ExitStack() as stack:
@@ -1780,6 +1781,11 @@ def ends_while_away(kind):
         (folder / "other" / "note.json").unlink()
         words = ("serve", folder / "new", "--journal", journal.address, "--procedures", folder / "other")
         same("whether other procedures are refused", True, is_refused("these procedures are not those of the journal: note. ", *words, python=journal.python))
+        with group.servers[primary].connect() as client:
+            with journal.silent():
+                client.sendall(json.dumps(pay(2, 1, 2, 5)).encode() + b"\n")
+                time.sleep(6)  # in which all requests to it are given up
+            same("what the client has then", {"paid"}, {"paid"} & set(json.loads(client.makefile().readline())))
         with journal.silent(), group.servers[primary].connect() as client:
             client.sendall(json.dumps(pay(1, 1, 2, 5)).encode() + b"\n")
             follower = group.servers[(primary + 1) % 3]
