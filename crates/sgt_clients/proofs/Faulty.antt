@@ -1,8 +1,8 @@
 -- The errors of a check.
 use Rattle.std.proofs.Common.{◌≡◌, ◌<◌, ◌∙◌, length, ℕ, List, refl, sym, subst}
-use Rattle.std.specs.Prelude.{Option, Some, None, Result, Err, IfErr, IfSome}
+use Rattle.std.specs.Prelude.{Option, Some, Result, Err, IfErr, IfSome}
 use Rattle.sgt_check.specs.declared.fault.CheckFault.{CheckFault}
-use Rattle.sgt_check.specs.declared.fault.CheckFault.TheVariants.{Notation, NoOperations, TooLong, Reading, Writing, NoMemory}
+use Rattle.sgt_check.specs.declared.fault.CheckFault.TheVariants.{TooLong, NoMemory}
 use Rattle.sgt_clients.specs.declared.fault.ClientsFault.{ClientsFault}
 use Rattle.sgt_clients.specs.declared.fault.ClientsFault.TheVariants as fault
 use Rattle.sgt_clients.specs.Checks.{IsFaultOf}
@@ -10,33 +10,14 @@ use Rattle.sgt_clients.specs.Faults.{IsOwn}
 
 -- an error of the text is one of the input
 pub own_fault : (rest : Option (List ℕ)) (f : ClientsFault) → IsOwn f → IfSome rest (λ input. IsFaultOf input f)
-own_fault None f own = tt
-own_fault (Some bytes) (fault.Entry line entry flaw) own = tt
-own_fault (Some bytes) (fault.Hinted line entry flaw hint) own = tt
-own_fault (Some bytes) (fault.Twice second value key first) own = tt
-own_fault (Some bytes) (fault.Unasked second value key first) own = tt
-own_fault (Some bytes) (fault.Early second value key first) own = tt
-own_fault (Some bytes) fault.NoOperations own = tt
-own_fault (Some bytes) (fault.OnlySkipped count) own = tt
-own_fault (Some bytes) fault.NoInvocations own = tt
-own_fault (Some bytes) fault.Undecided own = tt
-own_fault (Some bytes) (fault.Check (Notation n)) own = tt
-own_fault (Some bytes) (fault.Check NoOperations) own = tt
 own_fault (Some bytes) (fault.Check TooLong) own = absurd (cc)
-own_fault (Some bytes) (fault.Check Reading) own = tt
-own_fault (Some bytes) (fault.Check Writing) own = tt
-own_fault (Some bytes) (fault.Check NoMemory) own = tt
+own_fault _ _ own = tt
 
 -- an error of reading is one of the input
 pub input_fault : (rest : Option (List ℕ)) (f : CheckFault) → (f ≡ TooLong → IfSome rest (λ bytes. 268435456 < length bytes))
     → IfSome rest (λ input. IsFaultOf input (fault.Check f))
-input_fault None f long = tt
-input_fault (Some bytes) (Notation n) long = tt
-input_fault (Some bytes) NoOperations long = tt
 input_fault (Some bytes) TooLong long = long refl
-input_fault (Some bytes) Reading long = tt
-input_fault (Some bytes) Writing long = tt
-input_fault (Some bytes) NoMemory long = tt
+input_fault _ _ long = tt
 
 -- an error of the text is none of reading or writing
 pub own_not : {A : Type 0} (r : Result A ClientsFault) (g : ClientsFault) (f : CheckFault) → IsOwn g → r ≡ Err g → r ≡ Err (fault.Check f)

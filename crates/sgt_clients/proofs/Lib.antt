@@ -9,5 +9,4 @@ pub mod RealTime
 pub mod Scans
 pub mod Spelled
 pub mod Stored
-pub mod Texts
 pub mod Reported

@@ -65,10 +65,3 @@ stores_none old new status e p was is it =
 pub on_ok : {T E : Type 0} (r : Result T E) (P Q : Type 0) → (P → Q) → OnOk r P → OnOk r Q
 on_ok (Ok x) P Q f p = f p
 on_ok (Err e) P Q f p = tt
-
-pub on_ok_both : {T E : Type 0} (r : Result T E) (P R Q : Type 0) → (P → R → Q) → OnOk r P → OnOk r R → OnOk r Q
-on_ok_both (Ok x) P R Q f p s = f p s
-on_ok_both (Err e) P R Q f p s = tt
-
-pub at_ok : {T E : Type 0} (r : Result T E) (x : T) (P : Type 0) → r ≡ Ok x → OnOk r P → P
-at_ok r x P is it = subst (λ s. OnOk s P) is it

@@ -5,25 +5,22 @@ use Rattle.std.specs.Fmt.{decimal}
 use Rattle.sgt_clients.specs.declared.anomalies.Example.{Example}
 use Rattle.sgt_clients.specs.declared.anomalies.Example.TheVariants.{Read, Partial, Update}
 use Rattle.sgt_clients.specs.declared.anomalies.Seen.{Seen}
+use Rattle.sgt_format.specs.Templates.{filled}
 use Rattle.sgt_clients.specs.declared.clients.Clients.{Clients}
-use Rattle.sgt_clients.specs.JsonText.{items_text, reader_members}
-use Rattle.sgt_clients.specs.LevelText.{fault_line}
-use Rattle.sgt_clients.specs.LevelJson.{partial_members, ties_member}
-use Rattle.sgt_clients.specs.TieText.{tie_text, partial_text}
+use Rattle.sgt_clients.specs.JsonText.{list_text, cycle_member, reader_members}
+use Rattle.sgt_clients.specs.ReportText.{fault_text, fault_line}
+use Rattle.sgt_clients.specs.LevelJson.{tie_object}
+use Rattle.sgt_clients.specs.TieText.{tie_text, partial_text, partial_line}
 
 -- the lines of an example
 abbrev pub example_text : Clients → Example → List ℕ
 example_text c (Read reader read fault) = fault_line c reader read fault
-example_text c (Partial partial) = codes "  " ++ partial_text c partial ++ codes "\n"
-example_text c (Update one other) = tie_text c one ++ tie_text c other
+example_text c (Partial partial) = partial_line c partial
+example_text c (Update one other) = flat_map (tie_text c) (one ∷ other ∷ [])
 
--- the line that names an anomaly, and how often it was seen
-abbrev pub seen_line : List ℕ → ℕ → List ℕ
-seen_line name count = codes "anomaly " ++ name ++ codes ": " ++ decimal count ++ codes ", the first:\n"
-
--- that line, and those of its example
+-- the line that names an anomaly, and how often it was seen, and those of its example
 abbrev pub seen_text : Clients → Seen → List ℕ
-seen_text c s = seen_line s.name.now s.count ++ example_text c s.first
+seen_text c s = filled (codes "anomaly #: #, the first:\n") (s.name.now ∷ decimal s.count ∷ []) ++ example_text c s.first
 
 -- the same of all anomalies
 abbrev pub anomalies_text : Clients → List Seen → List ℕ
@@ -31,18 +28,14 @@ anomalies_text c all = flat_map (seen_text c) all
 
 -- the members of an example
 abbrev pub example_members : Clients → Example → List ℕ
-example_members c (Read reader read fault) = reader_members c reader read fault
-example_members c (Partial partial) = partial_members c partial
-example_members c (Update one other) = ties_member c (one ∷ other ∷ [])
+example_members c (Read reader read fault) = reader_members c reader (fault_text c reader read fault)
+example_members c (Partial partial) = reader_members c partial.reader (partial_text c partial)
+example_members c (Update one other) = cycle_member (tie_object c) (one ∷ other ∷ [])
 
--- the beginning of the object of an anomaly: its name, and how often it was seen
-abbrev pub seen_head : List ℕ → ℕ → List ℕ
-seen_head name count = codes "{\"anomaly\":\"" ++ name ++ codes "\",\"count\":" ++ decimal count
-
--- the object of an anomaly
+-- the object of an anomaly: its name, how often it was seen, and the example
 abbrev pub seen_object : Clients → Seen → List ℕ
-seen_object c s = seen_head s.name.now s.count ++ example_members c s.first ++ codes "}"
+seen_object c s = filled (codes "{\"anomaly\":\"#\",\"count\":#") (s.name.now ∷ decimal s.count ∷ []) ++ example_members c s.first ++ codes "}"
 
 -- the member with the anomalies
 abbrev pub anomalies_member : Clients → List Seen → List ℕ
-anomalies_member c all = codes ",\"anomalies\":[" ++ items_text (seen_object c) all ++ codes "]"
+anomalies_member c all = list_text (codes ",\"anomalies\":[") (seen_object c) all

@@ -1,11 +1,10 @@
 -- The text of a finding as one object of JSON.
-use Rattle.std.specs.Prelude.{◌++◌, ◌==◌, ℕ, Bool, if◌then◌else◌, List, [], ◌∷◌, length, codes, count_by}
+use Rattle.std.specs.Prelude.{◌++◌, ◌==◌, ℕ, Bool, if◌then◌else◌, List, [], ◌∷◌, codes}
 use Rattle.std.specs.List.{flat_map}
 use Rattle.std.specs.Fmt.{decimal}
-use Rattle.sgt_appends.specs.declared.transaction.Status.TheVariants.{Committed, Aborted, Unknown}
 use Rattle.sgt_appends.specs.declared.transaction.Transaction.{Transaction}
-use Rattle.sgt_appends.specs.declared.fault.Fault.{Fault}
 use Rattle.sgt_appends.specs.declared.witness.Reason.TheVariants.{Seen, Missed, InOrder}
+use Rattle.sgt_format.specs.Templates.{filled}
 use Rattle.sgt_clients.specs.declared.clients.Clients.{Clients}
 use Rattle.sgt_clients.specs.declared.finding.Why.{Why}
 use Rattle.sgt_clients.specs.declared.finding.Why.TheVariants.{Observed, RealTime}
@@ -13,7 +12,7 @@ use Rattle.sgt_clients.specs.declared.finding.Step.{Step}
 use Rattle.sgt_clients.specs.declared.finding.Finding.{Finding}
 use Rattle.sgt_clients.specs.declared.finding.Finding.TheVariants as finding
 use Rattle.sgt_clients.specs.Findings.{is_order}
-use Rattle.sgt_clients.specs.ReportText.{from_one, entry_of, why_text, fault_text, has_status}
+use Rattle.sgt_clients.specs.ReportText.{from_one, entry_of, why_text, fault_text, counts_of}
 
 -- `true` or `false`
 abbrev pub truth_text : Bool → List ℕ
@@ -28,14 +27,13 @@ abbrev pub items_text : {A : Type 0} → (A → List ℕ) → List A → List �
 items_text text [] = []
 items_text text (x ∷ xs) = text x ++ flat_map (next_item text) xs
 
--- the members on the number of transactions, and on how they ended
-abbrev pub counts_members : List Transaction → List ℕ
-counts_members h = codes ",\"transactions\":" ++ decimal (length h) ++ codes ",\"committed\":" ++ decimal (count_by (has_status Committed) h)
-    ++ codes ",\"aborted\":" ++ decimal (count_by (has_status Aborted) h) ++ codes ",\"unknown\":" ++ decimal (count_by (has_status Unknown) h)
+-- a list, which begins with these words
+abbrev pub list_text : {A : Type 0} → List ℕ → (A → List ℕ) → List A → List ℕ
+list_text words text xs = words ++ items_text text xs ++ codes "]"
 
 -- the member on the entries that were skipped, if there are any
 abbrev pub skipped_member : ℕ → List ℕ
-skipped_member n = if n == 0 then [] else codes ",\"skipped\":" ++ decimal n
+skipped_member n = if n == 0 then [] else filled (codes ",\"skipped\":#") (decimal n ∷ [])
 
 -- a transaction of a serial order
 abbrev pub number_text : ℕ → List ℕ
@@ -48,40 +46,46 @@ because_text (Observed (Missed read append)) = codes "missed"
 because_text (Observed (InOrder first second reader read)) = codes "in order"
 because_text RealTime = codes "real time"
 
--- the beginning of a step: its transactions, their entries, and the kind of its reason
-abbrev pub ends_text : Clients → ℕ → ℕ → List ℕ → List ℕ
-ends_text c from to because = codes "{\"from\":" ++ decimal (from_one from) ++ codes ",\"to\":" ++ decimal (from_one to)
-    ++ codes ",\"from_entry\":" ++ decimal (entry_of c from) ++ codes ",\"to_entry\":" ++ decimal (entry_of c to)
-    ++ codes ",\"because\":\"" ++ because ++ codes "\",\"why\":\""
+-- the step from transaction t to u: both, their entries, the kind of the reason, and the reason
+abbrev pub link_object : Clients → ℕ → ℕ → List ℕ → List ℕ → List ℕ
+link_object c t u because why =
+    filled (codes "{\"from\":#,\"to\":#,\"from_entry\":#,\"to_entry\":#,\"because\":\"#\",\"why\":\"#\"}")
+    (decimal (from_one t) ∷ decimal (from_one u) ∷ decimal (entry_of c t) ∷ decimal (entry_of c u) ∷ because ∷ why ∷ [])
 
--- a step: its transactions, their entries, and its reason
+-- a step of a cycle
 abbrev pub step_object : Clients → Step → List ℕ
-step_object c s = ends_text c s.from s.to (because_text s.why) ++ why_text c s.from s.to s.why ++ codes "\"}"
+step_object c s = link_object c s.from s.to (because_text s.why) (why_text c s.from s.to s.why)
 
 -- the member that names the anomaly
 abbrev pub anomaly_member : List ℕ → List ℕ
-anomaly_member name = codes ",\"anomaly\":\"" ++ name ++ codes "\""
+anomaly_member name = filled (codes ",\"anomaly\":\"#\"") (name ∷ [])
 
 -- the member with a serial order
 abbrev pub order_member : List ℕ → List ℕ
-order_member order = codes ",\"order\":[" ++ items_text number_text order ++ codes "]"
+order_member order = list_text (codes ",\"order\":[") number_text order
 
--- the member with the steps of a cycle
-abbrev pub cycle_member : Clients → List Step → List ℕ
-cycle_member c steps = codes ",\"cycle\":[" ++ items_text (step_object c) steps ++ codes "]"
+-- the member with the steps or ties of a cycle
+abbrev pub cycle_member : {A : Type 0} → (A → List ℕ) → List A → List ℕ
+cycle_member text links = list_text (codes ",\"cycle\":[") text links
 
 -- the members on a read: the reader, its entry, and what is wrong
-abbrev pub reader_members : Clients → ℕ → ℕ → Fault → List ℕ
-reader_members c reader read fault = codes ",\"reader\":" ++ decimal (from_one reader) ++ codes ",\"entry\":" ++ decimal (entry_of c reader)
-    ++ codes ",\"why\":\"" ++ fault_text c reader read fault ++ codes "\""
+abbrev pub reader_members : Clients → ℕ → List ℕ → List ℕ
+reader_members c reader why =
+    filled (codes ",\"reader\":#,\"entry\":#,\"why\":\"#\"") (decimal (from_one reader) ∷ decimal (entry_of c reader) ∷ why ∷ [])
 
 -- the members of a finding: the serial order, or the anomaly with its cycle or its reader
 abbrev pub finding_members : Clients → Finding → List ℕ
 finding_members c (finding.Serial order) = order_member order.items
-finding_members c (finding.Cycle steps name) = anomaly_member name.now ++ cycle_member c steps.items
-finding_members c (finding.Fault reader read fault name) = anomaly_member name.now ++ reader_members c reader read fault
+finding_members c (finding.Cycle steps name) = anomaly_member name.now ++ cycle_member (step_object c) steps.items
+finding_members c (finding.Fault reader read fault name) = anomaly_member name.now ++ reader_members c reader (fault_text c reader read fault)
+
+-- the beginning of the object, with the number of transactions, and how they ended
+abbrev pub counts_head : Bool → List Transaction → List ℕ
+counts_head strict h =
+    filled (codes "{\"model\":\"list-append\",\"strict\":#,\"transactions\":#,\"committed\":#,\"aborted\":#,\"unknown\":#")
+    (truth_text strict ∷ counts_of h)
 
 -- the beginning of the object, up to the members of the finding
 abbrev pub head_text : Bool → Clients → Finding → List ℕ
-head_text strict c f = codes "{\"model\":\"list-append\",\"strict\":" ++ truth_text strict ++ counts_members c.transactions.items
-    ++ skipped_member c.skipped ++ codes ",\"serializable\":" ++ truth_text (is_order f) ++ finding_members c f
+head_text strict c f = counts_head strict c.transactions.items ++ skipped_member c.skipped
+    ++ filled (codes ",\"serializable\":#") (truth_text (is_order f) ∷ []) ++ finding_members c f

@@ -1,5 +1,6 @@
 -- The members on the levels of isolation.
-use Rattle.std.specs.Prelude.{◌++◌, ℕ, Bool, List, [], Option, Some, None, codes, if◌then◌else◌}
+use Rattle.std.specs.Prelude.{◌++◌, ℕ, Bool, List, [], ◌∷◌, Option, Some, None, codes, if◌then◌else◌}
+use Rattle.std.specs.Option.{option_map_or}
 use Rattle.std.specs.Fmt.{decimal}
 use Rattle.sgt_levels.specs.declared.levels.Writes.{Writes}
 use Rattle.sgt_levels.specs.declared.levels.Writes.TheVariants as writes
@@ -7,24 +8,23 @@ use Rattle.sgt_levels.specs.declared.levels.Committed.{Committed}
 use Rattle.sgt_levels.specs.declared.levels.Committed.TheVariants as committed
 use Rattle.sgt_levels.specs.declared.levels.Snapshot.{Snapshot}
 use Rattle.sgt_levels.specs.declared.levels.Snapshot.TheVariants as snapshot
-use Rattle.sgt_levels.specs.declared.survey.Partial.{Partial}
+use Rattle.sgt_levels.specs.declared.search.Snapshots.{Snapshots}
 use Rattle.sgt_levels.specs.declared.tie.Ground.{Ground}
 use Rattle.sgt_levels.specs.declared.tie.Ground.TheVariants.{Seen, InOrder, Late, Wait, Missed}
 use Rattle.sgt_levels.specs.declared.tie.Tie.{Tie}
 use Rattle.sgt_levels.specs.declared.unseen.Unseen.{Unseen}
+use Rattle.sgt_format.specs.Templates.{filled}
 use Rattle.sgt_clients.specs.declared.clients.Clients.{Clients}
-use Rattle.sgt_clients.specs.declared.finding.Finding.{Finding}
 use Rattle.sgt_clients.specs.declared.level.Answer.{Answer}
 use Rattle.sgt_clients.specs.declared.level.Answer.TheVariants.{Yes, No, Undecided}
 use Rattle.sgt_clients.specs.declared.level.Level.{Level}
 use Rattle.sgt_clients.specs.declared.level.Level.TheVariants.{ReadUncommitted, ReadCommitted, SnapshotIsolation, Serializable, StrictSerializable}
 use Rattle.sgt_clients.specs.declared.level_findings.LevelFindings.{LevelFindings}
-use Rattle.sgt_clients.specs.declared.level_findings.Weaker.{Weaker}
-use Rattle.sgt_clients.specs.JsonText.{items_text, ends_text, anomaly_member, order_member, reader_members, finding_members}
+use Rattle.sgt_clients.specs.JsonText.{list_text, link_object, anomaly_member, order_member, cycle_member, reader_members, finding_members}
 use Rattle.sgt_clients.specs.Levels.{answer_of, strongest_of}
-use Rattle.sgt_clients.specs.ReportText.{from_one, entry_of}
+use Rattle.sgt_clients.specs.ReportText.{fault_text}
 use Rattle.sgt_clients.specs.TieText.{ground_text, partial_text}
-use Rattle.sgt_clients.specs.UnseenText.{unseen_member}
+use Rattle.sgt_clients.specs.UnseenText.{unseen_in}
 
 -- the name of a level, as the option spells it, in quotes
 abbrev pub level_code : Level → List ℕ
@@ -47,7 +47,7 @@ answer_text Undecided = codes "undecided"
 
 -- the beginning of the object of a level: whether it holds
 abbrev pub holds_text : Level → Answer → List ℕ
-holds_text level answer = level_code level ++ codes ":{\"holds\":\"" ++ answer_text answer ++ codes "\""
+holds_text level answer = filled (codes "#:{\"holds\":\"#\"") (level_code level ∷ answer_text answer ∷ [])
 
 -- the kind of the reason of a tie
 abbrev pub ground_word : Ground → List ℕ
@@ -59,69 +59,44 @@ ground_word (Missed read append) = codes "missed"
 
 -- a tie
 abbrev pub tie_object : Clients → Tie → List ℕ
-tie_object c tie = ends_text c tie.from tie.to (ground_word tie.ground) ++ ground_text c tie.from tie.to tie.ground ++ codes "\"}"
+tie_object c tie = link_object c tie.from tie.to (ground_word tie.ground) (ground_text c tie.from tie.to tie.ground)
 
--- the member with a cycle of ties
-abbrev pub ties_member : Clients → List Tie → List ℕ
-ties_member c ties = codes ",\"cycle\":[" ++ items_text (tie_object c) ties ++ codes "]"
-
--- the members on a partial read: the reader, its entry, and what it saw
-abbrev pub partial_members : Clients → Partial → List ℕ
-partial_members c p = codes ",\"reader\":" ++ decimal (from_one p.reader) ++ (codes ",\"entry\":" ++ decimal (entry_of c p.reader))
-    ++ (codes ",\"why\":\"" ++ partial_text c p ++ codes "\"")
+-- the anomaly, and its cycle of ties
+abbrev pub ties_members : Clients → List ℕ → List Tie → List ℕ
+ties_members c name ties = anomaly_member name ++ cycle_member (tie_object c) ties
 
 -- the evidence of an answer for read uncommitted
 abbrev pub ordered_members : Clients → List ℕ → Writes → List ℕ
 ordered_members c name writes.Implied = []
 ordered_members c name (writes.Order order) = order_member order.items
-ordered_members c name (writes.Cycle ties) = anomaly_member name ++ ties_member c ties.items
+ordered_members c name (writes.Cycle ties) = ties_members c name ties.items
 ordered_members c name writes.Open = []
-
--- the evidence for read uncommitted, unless it follows from that for read committed
-abbrev pub writes_members : Clients → Option Weaker → List ℕ
-writes_members c (Some w) = ordered_members c w.writes_name.now w.levels.writes
-writes_members c None = []
 
 -- the evidence of an answer for read committed
 abbrev pub evidence_members : Clients → List ℕ → Committed → List ℕ
 evidence_members c name (committed.Run order) = order_member order.items
-evidence_members c name (committed.Fault reader read fault) = anomaly_member name ++ reader_members c reader read fault
-evidence_members c name (committed.Partial partial) = anomaly_member name ++ partial_members c partial
-evidence_members c name (committed.Cycle ties) = anomaly_member name ++ ties_member c ties.items
+evidence_members c name (committed.Fault reader read fault) = anomaly_member name ++ reader_members c reader (fault_text c reader read fault)
+evidence_members c name (committed.Partial partial) = anomaly_member name ++ reader_members c partial.reader (partial_text c partial)
+evidence_members c name (committed.Cycle ties) = ties_members c name ties.items
 evidence_members c name committed.Open = []
 
--- the evidence for read committed, unless it follows from a serial order
-abbrev pub committed_members : Clients → Option Weaker → List ℕ
-committed_members c (Some w) = evidence_members c w.committed_name.now w.levels.committed
-committed_members c None = []
-
--- how many of the order had committed when each began
-abbrev pub starts_member : List ℕ → List ℕ
-starts_member starts = codes ",\"starts\":[" ++ items_text decimal starts ++ codes "]"
+-- the order of commits, and how many of it had committed when each began
+abbrev pub run_members : Snapshots → List ℕ
+run_members run = order_member run.order.items ++ list_text (codes ",\"starts\":[") decimal run.starts.items
 
 -- the evidence of an answer for snapshot isolation
 abbrev pub split_members : Clients → List ℕ → Option Unseen → Snapshot → List ℕ
-split_members c name unseen (snapshot.Run run) = order_member run.order.items ++ starts_member run.starts.items
+split_members c name unseen (snapshot.Run run) = run_members run
 split_members c name unseen snapshot.NotCommitted = []
-split_members c name unseen (snapshot.Cycle ties) = anomaly_member name ++ ties_member c ties.items
-split_members c name unseen snapshot.Open = unseen_member c unseen
-
--- the evidence for snapshot isolation, unless it follows from a serial order
-abbrev pub snapshot_members : Clients → Option Weaker → List ℕ
-snapshot_members c (Some w) = split_members c w.snapshot_name.now w.unseen w.levels.snapshot
-snapshot_members c None = []
-
--- the evidence on serializability, unless it stands before
-abbrev pub untimed_members : Clients → Option Finding → List ℕ
-untimed_members c (Some f) = finding_members c f
-untimed_members c None = []
+split_members c name unseen (snapshot.Cycle ties) = ties_members c name ties.items
+split_members c name unseen snapshot.Open = unseen_in (codes ",\"why\":\"#\"") c unseen
 
 -- the evidence of a level, unless it stands before or follows from that of another one
 abbrev pub level_members : Clients → LevelFindings → Level → List ℕ
-level_members c f ReadUncommitted = writes_members c f.weaker
-level_members c f ReadCommitted = committed_members c f.weaker
-level_members c f SnapshotIsolation = snapshot_members c f.weaker
-level_members c f Serializable = untimed_members c f.untimed
+level_members c f ReadUncommitted = option_map_or (λ w. ordered_members c w.writes_name.now w.levels.writes) f.weaker []
+level_members c f ReadCommitted = option_map_or (λ w. evidence_members c w.committed_name.now w.levels.committed) f.weaker []
+level_members c f SnapshotIsolation = option_map_or (λ w. split_members c w.snapshot_name.now w.unseen w.levels.snapshot) f.weaker []
+level_members c f Serializable = option_map_or (finding_members c) f.untimed []
 level_members c f StrictSerializable = []
 
 -- the object of a level
@@ -143,7 +118,7 @@ level_objects strict c f = level_object c f ReadUncommitted ++ next_object c f R
 
 -- the member on the strongest level, and the beginning of that on each level
 abbrev pub strongest_member : Option Level → List ℕ
-strongest_member level = codes ",\"strongest\":" ++ strongest_code level ++ codes ",\"levels\":{"
+strongest_member level = filled (codes ",\"strongest\":#,\"levels\":{") (strongest_code level ∷ [])
 
 -- the members on the strongest level, and on each level
 abbrev pub levels_members : Bool → Clients → LevelFindings → List ℕ

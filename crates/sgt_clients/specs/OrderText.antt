@@ -1,70 +1,84 @@
 -- The lines and members on the orders that a snapshot run keeps.
-use Rattle.std.specs.Prelude.{◌++◌, List, ℕ, [], Option, Some, None, codes, if◌then◌else◌}
+use Rattle.std.specs.Prelude.{◌++◌, List, ℕ, [], ◌∷◌, Option, Some, None, codes, if◌then◌else◌}
 use Rattle.std.specs.List.{flat_map}
 use Rattle.sgt_levels.specs.declared.tie.Passage.{Passage}
 use Rattle.sgt_levels.specs.declared.tie.Ground.{Ground}
+use Rattle.sgt_format.specs.Templates.{filled}
 use Rattle.sgt_clients.specs.declared.clients.Clients.{Clients}
 use Rattle.sgt_clients.specs.declared.finding.Why.TheVariants.{RealTime}
+use Rattle.sgt_clients.specs.declared.level.Answer.{Answer}
+use Rattle.sgt_clients.specs.declared.level.Answer.TheVariants.{Yes, No, Undecided}
 use Rattle.sgt_clients.specs.declared.orders.Kept.{Kept}
 use Rattle.sgt_clients.specs.declared.orders.Kept.TheVariants as kept
 use Rattle.sgt_clients.specs.declared.orders.KeptOrders.{KeptOrders}
-use Rattle.sgt_clients.specs.JsonText.{items_text, ends_text, order_member, step_object}
-use Rattle.sgt_clients.specs.LevelJson.{starts_member, ground_word}
-use Rattle.sgt_clients.specs.LevelText.{above_text}
-use Rattle.sgt_clients.specs.ReportText.{placed, step_text}
+use Rattle.sgt_clients.specs.JsonText.{cycle_member, link_object, because_text}
+use Rattle.sgt_clients.specs.LevelJson.{answer_text, run_members, ground_word}
+use Rattle.sgt_clients.specs.ReportText.{link_text, why_text}
 use Rattle.sgt_clients.specs.TieText.{ground_text}
 
 -- the line of a tie, or without a ground of a step of real time
 abbrev pub ground_line : Clients → ℕ → ℕ → Option Ground → List ℕ
-ground_line c t u (Some g) = codes "  " ++ placed c t ++ codes " before " ++ placed c u ++ codes ": " ++ ground_text c t u g ++ codes "\n"
-ground_line c t u None = step_text c (record { from = t; to = u; why = RealTime })
+ground_line c t u (Some g) = link_text c t u (ground_text c t u g)
+ground_line c t u None = link_text c t u (why_text c t u RealTime)
 
 -- the line of a passage
 abbrev pub passage_text : Clients → Passage → List ℕ
 passage_text c p = ground_line c p.from p.to p.ground
 
--- whether a run keeps an order, and what leaves none
+-- whether a run keeps an order
+abbrev pub kept_answer : Kept → Answer
+kept_answer kept.Implied = Yes
+kept_answer (kept.Run run) = Yes
+kept_answer kept.NotSnapshot = No
+kept_answer (kept.Cycle passages) = No
+kept_answer kept.Open = Undecided
+
+-- the end of the line, and the lines on what leaves no run
+abbrev pub kept_lines : Clients → Kept → List ℕ
+kept_lines c kept.Implied = codes "\n"
+kept_lines c (kept.Run run) = codes "\n"
+kept_lines c kept.NotSnapshot = codes "\n"
+kept_lines c (kept.Cycle passages) = codes ":\n" ++ flat_map (passage_text c) passages.items
+kept_lines c kept.Open = codes "\n"
+
+-- whether a run keeps the order of this name, and what leaves none
 abbrev pub kept_text : List ℕ → Clients → Kept → List ℕ
-kept_text words c kept.Implied = words ++ codes " yes\n"
-kept_text words c (kept.Run run) = words ++ codes " yes\n"
-kept_text words c kept.NotSnapshot = words ++ codes " no\n"
-kept_text words c (kept.Cycle passages) = words ++ codes " no:\n" ++ flat_map (passage_text c) passages.items
-kept_text words c kept.Open = words ++ codes " undecided\n"
+kept_text name c k = filled (codes "# snapshot isolation #") (name ∷ answer_text (kept_answer k) ∷ []) ++ kept_lines c k
 
 -- whether a run keeps real time, and what leaves none, unless the lines before say it
 abbrev pub strong_text : Clients → KeptOrders → List ℕ
 strong_text c o =
-    if o.strong_above then above_text (codes "strong snapshot isolation no: ")
-    else kept_text (codes "strong snapshot isolation") c o.strong
+    if o.strong_above then codes "strong snapshot isolation no: by the lines above\n"
+    else kept_text (codes "strong") c o.strong
 
 -- the lines on both orders, if real time is kept
 abbrev pub orders_text : Clients → Option KeptOrders → List ℕ
 orders_text c None = []
-orders_text c (Some o) = strong_text c o ++ kept_text (codes "session snapshot isolation") c o.session
+orders_text c (Some o) = strong_text c o ++ kept_text (codes "session") c o.session
 
 -- the object of a tie, or without a ground of a step of real time
 abbrev pub ground_object : Clients → ℕ → ℕ → Option Ground → List ℕ
-ground_object c t u (Some g) = ends_text c t u (ground_word g) ++ ground_text c t u g ++ codes "\"}"
-ground_object c t u None = step_object c (record { from = t; to = u; why = RealTime })
+ground_object c t u (Some g) = link_object c t u (ground_word g) (ground_text c t u g)
+ground_object c t u None = link_object c t u (because_text RealTime) (why_text c t u RealTime)
 
 -- the object of a passage
 abbrev pub passage_object : Clients → Passage → List ℕ
 passage_object c p = ground_object c p.from p.to p.ground
 
--- the answer, and its evidence
+-- the run, or the cycle that leaves none
 abbrev pub kept_members : Clients → Kept → List ℕ
-kept_members c kept.Implied = codes "yes\""
-kept_members c (kept.Run run) = codes "yes\"" ++ order_member run.order.items ++ starts_member run.starts.items
-kept_members c kept.NotSnapshot = codes "no\""
-kept_members c (kept.Cycle passages) = codes "no\",\"cycle\":[" ++ items_text (passage_object c) passages.items ++ codes "]"
-kept_members c kept.Open = codes "undecided\""
+kept_members c kept.Implied = []
+kept_members c (kept.Run run) = run_members run
+kept_members c kept.NotSnapshot = []
+kept_members c (kept.Cycle passages) = cycle_member (passage_object c) passages.items
+kept_members c kept.Open = []
 
--- the member of an order
+-- the member of the order of this name
 abbrev pub kept_member : List ℕ → Clients → Kept → List ℕ
-kept_member words c k = words ++ kept_members c k ++ codes "}"
+kept_member name c k = filled (codes ",\"#-snapshot-isolation\":{\"holds\":\"#\"") (name ∷ answer_text (kept_answer k) ∷ [])
+    ++ kept_members c k ++ codes "}"
 
 -- the members on both orders, if real time is kept
 abbrev pub orders_members : Clients → Option KeptOrders → List ℕ
 orders_members c None = []
-orders_members c (Some o) = kept_member (codes ",\"strong-snapshot-isolation\":{\"holds\":\"") c o.strong
-    ++ kept_member (codes ",\"session-snapshot-isolation\":{\"holds\":\"") c o.session
+orders_members c (Some o) = kept_member (codes "strong") c o.strong ++ kept_member (codes "session") c o.session

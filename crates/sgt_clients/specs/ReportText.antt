@@ -1,5 +1,5 @@
 -- The lines of a report on what clients saw.
-use Rattle.std.specs.Prelude.{◌+◌, ◌-◌, ◌^◌, ◌++◌, ◌==◌, ◌||◌, ℕ, Bool, true, false, nat_lt, if◌then◌else◌, min, List, [], ◌∷◌, length, take, drop, Option, Some, None, option_and_then, slice_get, codes, count_by}
+use Rattle.std.specs.Prelude.{◌+◌, ◌-◌, ◌^◌, ◌++◌, ◌==◌, ◌||◌, ℕ, Bool, true, false, nat_lt, if◌then◌else◌, min, List, [], ◌∷◌, length, map, take, drop, Option, Some, None, option_and_then, slice_get, codes, count_by}
 use Rattle.std.specs.Option.{option_map_or}
 use Rattle.std.specs.List.{flat_map}
 use Rattle.std.specs.Fmt.{decimal}
@@ -12,6 +12,7 @@ use Rattle.sgt_appends.specs.declared.fault.Fault.{Fault}
 use Rattle.sgt_appends.specs.declared.fault.Fault.TheVariants as fault
 use Rattle.sgt_appends.specs.declared.witness.Reason.{Reason}
 use Rattle.sgt_appends.specs.declared.witness.Reason.TheVariants.{Seen, Missed, InOrder}
+use Rattle.sgt_format.specs.Templates.{filled}
 use Rattle.sgt_clients.specs.declared.clients.Clients.{Clients}
 use Rattle.sgt_clients.specs.declared.clients.Span.{Span}
 use Rattle.sgt_clients.specs.declared.evidence.Spoken.{Spoken}
@@ -20,6 +21,7 @@ use Rattle.sgt_clients.specs.declared.finding.Why.TheVariants.{Observed, RealTim
 use Rattle.sgt_clients.specs.declared.finding.Step.{Step}
 use Rattle.sgt_clients.specs.declared.finding.Finding.{Finding}
 use Rattle.sgt_clients.specs.declared.finding.Finding.TheVariants as finding
+use Rattle.sgt_clients.specs.Evidence.{put_of, seen_of}
 use Rattle.sgt_clients.specs.Values.{value_text}
 
 -- an index, counted from 1; at most 2^64 - 1
@@ -79,10 +81,12 @@ abbrev pub operation_at : Clients → ℕ → ℕ → Option Operation
 operation_at c t p = option_and_then (λ x. slice_get x.operations.items p) (slice_get c.transactions.items t)
 
 -- the key and the values that a read saw, of which these are spoken of
+abbrev pub seen_text : Clients → Spoken → ℕ × List ℕ → List ℕ
+seen_text c s it = codes " read key " ++ key_text c it.0 ++ codes " as " ++ values_text s it.1
+
+-- the same, if the operation is a read
 abbrev pub read_text : Clients → Spoken → Option Operation → List ℕ
-read_text c s (Some (Read k values)) = codes " read key " ++ key_text c k ++ codes " as " ++ values_text s values.items
-read_text c s (Some (Append k value)) = []
-read_text c s None = []
+read_text c s o = option_map_or (seen_text c s) (seen_of o) []
 
 -- the value of an append
 abbrev pub value_of : Option Operation → Option ℕ
@@ -114,66 +118,62 @@ values_of None = []
 abbrev pub parting_at : Clients → ℕ → ℕ → ℕ → ℕ → Spoken
 parting_at c t p u q = parting (values_of (operation_at c t p)) (values_of (operation_at c u q))
 
--- the words on the value of an append
-abbrev pub with_value : (ℕ → List ℕ) → Option Operation → List ℕ
-with_value words (Some (Append k value)) = words value
-with_value words (Some (Read k values)) = []
-with_value words None = []
+-- the value of the append at a position of a transaction, if there is one
+abbrev pub value_at : Clients → ℕ → ℕ → List ℕ
+value_at c t p = option_map_or value_text (value_of (operation_at c t p)) []
 
--- the words on the values of two appends
-abbrev pub with_values : (ℕ → ℕ → List ℕ) → Option Operation → Option Operation → List ℕ
-with_values words one other = with_value (λ v. with_value (words v) other) one
+-- the text of the key of the append at a position of a transaction, if there is one
+abbrev pub key_at : Clients → ℕ → ℕ → List ℕ
+key_at c t p = option_map_or (λ put. key_text c put.key) (put_of (operation_at c t p)) []
 
--- a value that was seen, or missed, and who appended it
-abbrev pub of_appender : List ℕ → ℕ → ℕ → List ℕ
-of_appender with t v = with ++ value_text v ++ codes ", which " ++ transaction_text t ++ codes " appended"
+-- a transaction, and the read at a position of it
+abbrev pub read_at : Clients → ℕ → ℕ → Spoken → List ℕ
+read_at c t p s = transaction_text t ++ read_text c s (operation_at c t p)
 
--- two values that were seen in this order, and who appended them
-abbrev pub in_order_text : ℕ → ℕ → ℕ → ℕ → List ℕ
-in_order_text t u v w = codes ", with " ++ value_text v ++ codes " of " ++ transaction_text t ++ codes " before " ++ value_text w
-    ++ codes " of " ++ transaction_text u
+-- the same with the entry of the transaction
+abbrev pub placed_read : Clients → ℕ → ℕ → Spoken → List ℕ
+placed_read c t p s = placed c t ++ read_text c s (operation_at c t p)
 
 -- what was observed that puts transaction t before u
 abbrev pub reason_text : Clients → ℕ → ℕ → Reason → List ℕ
-reason_text c t u (Seen append read) = transaction_text u ++ read_text c (of_one (value_of (operation_at c t append))) (operation_at c u read)
-    ++ with_value (of_appender (codes ", with ") t) (operation_at c t append)
-reason_text c t u (Missed read append) = transaction_text t ++ read_text c (of_one None) (operation_at c t read)
-    ++ with_value (of_appender (codes ", without ") u) (operation_at c u append)
-reason_text c t u (InOrder first second reader read) = placed c reader
-    ++ read_text c (of_two (value_of (operation_at c t first)) (value_of (operation_at c u second))) (operation_at c reader read)
-    ++ with_values (in_order_text t u) (operation_at c t first) (operation_at c u second)
+reason_text c t u (Seen append read) =
+    filled (codes "#, with #, which # appended")
+    (read_at c u read (of_one (value_of (operation_at c t append))) ∷ value_at c t append ∷ transaction_text t ∷ [])
+reason_text c t u (Missed read append) =
+    filled (codes "#, without #, which # appended") (read_at c t read (of_one None) ∷ value_at c u append ∷ transaction_text u ∷ [])
+reason_text c t u (InOrder first second reader read) =
+    filled (codes "#, with # of # before # of #")
+    (placed_read c reader read (of_two (value_of (operation_at c t first)) (value_of (operation_at c u second)))
+    ∷ value_at c t first ∷ transaction_text t ∷ value_at c u second ∷ transaction_text u ∷ [])
 
 -- the reason of a step
 abbrev pub why_text : Clients → ℕ → ℕ → Why → List ℕ
 why_text c t u (Observed reason) = reason_text c t u reason
-why_text c t u RealTime = transaction_text t ++ codes " ended before " ++ transaction_text u ++ codes " began"
+why_text c t u RealTime = filled (codes "# ended before # began") (transaction_text t ∷ transaction_text u ∷ [])
+
+-- the line that transaction t comes before u, with the reason
+abbrev pub link_text : Clients → ℕ → ℕ → List ℕ → List ℕ
+link_text c t u why = filled (codes "  # before #: #\n") (placed c t ∷ placed c u ∷ why ∷ [])
 
 -- the line of a step
 abbrev pub step_text : Clients → Step → List ℕ
-step_text c s = codes "  " ++ placed c s.from ++ codes " before " ++ placed c s.to ++ codes ": " ++ why_text c s.from s.to s.why ++ codes "\n"
+step_text c s = link_text c s.from s.to (why_text c s.from s.to s.why)
 
--- a value of its own that a transaction saw too early
-abbrev pub ahead_text : ℕ → ℕ → List ℕ
-ahead_text t v = codes ", with " ++ value_text v ++ codes ", which " ++ transaction_text t ++ codes " appended only later"
-
--- two values in another order than their transaction appended them
-abbrev pub swapped_text : Clients → ℕ → ℕ → ℕ → List ℕ
-swapped_text c t v w = codes ", with " ++ value_text w ++ codes " before " ++ value_text v ++ codes ", but " ++ placed c t ++ codes " appended "
-    ++ value_text v ++ codes " first"
-
--- a value of an aborted transaction
-abbrev pub aborted_text : Clients → ℕ → ℕ → List ℕ
-aborted_text c t v = codes ", with " ++ value_text v ++ codes " of " ++ placed c t ++ codes ", which aborted"
-
--- what is wrong with a read
-abbrev pub wrong_text : Clients → ℕ → ℕ → Fault → List ℕ
-wrong_text c reader position (fault.Unwritten value) = codes ", but no transaction that may have committed appends " ++ value_text value
-wrong_text c reader position (fault.Aborted by append) = with_value (aborted_text c by) (operation_at c by append)
-wrong_text c reader position (fault.Twice value) = codes ", with a value twice: " ++ value_text value
-wrong_text c reader position fault.EndsOtherwise = codes ", which does not end with what " ++ transaction_text reader ++ codes " had appended"
-wrong_text c reader position (fault.Ahead append) = with_value (ahead_text reader) (operation_at c reader append)
-wrong_text c reader position (fault.Swapped by first second) = with_values (swapped_text c by) (operation_at c by first) (operation_at c by second)
-wrong_text c reader position (fault.Incompatible other read) = codes ", but " ++ (placed c other ++ read_text c (parting_at c reader position other read) (operation_at c other read))
+-- what is wrong with this read of the reader, of which these values are spoken of
+abbrev pub wrong_text : Clients → ℕ → List ℕ → Spoken → Fault → List ℕ
+wrong_text c reader seen s (fault.Unwritten value) =
+    filled (codes "#, but no transaction that may have committed appends #") (seen ∷ value_text value ∷ [])
+wrong_text c reader seen s (fault.Aborted by append) =
+    filled (codes "#, with # of #, which aborted") (seen ∷ value_at c by append ∷ placed c by ∷ [])
+wrong_text c reader seen s (fault.Twice value) = filled (codes "#, with a value twice: #") (seen ∷ value_text value ∷ [])
+wrong_text c reader seen s fault.EndsOtherwise =
+    filled (codes "#, which does not end with what # had appended") (seen ∷ transaction_text reader ∷ [])
+wrong_text c reader seen s (fault.Ahead append) =
+    filled (codes "#, with #, which # appended only later") (seen ∷ value_at c reader append ∷ transaction_text reader ∷ [])
+wrong_text c reader seen s (fault.Swapped by first second) =
+    filled (codes "#, with # before #, but # appended # first")
+    (seen ∷ value_at c by second ∷ value_at c by first ∷ placed c by ∷ value_at c by first ∷ [])
+wrong_text c reader seen s (fault.Incompatible other read) = filled (codes "#, but #") (seen ∷ placed_read c other read s ∷ [])
 
 -- the values that a fault speaks of
 abbrev pub spoken_of : Clients → ℕ → ℕ → Fault → Spoken
@@ -185,9 +185,13 @@ spoken_of c reader position (fault.Ahead append) = of_one (value_of (operation_a
 spoken_of c reader position (fault.Swapped by first second) = of_two (value_of (operation_at c by first)) (value_of (operation_at c by second))
 spoken_of c reader position (fault.Incompatible other read) = parting_at c reader position other read
 
+-- a read of which these values are spoken of, and what is wrong with it
+abbrev pub faulty_text : Clients → ℕ → ℕ → Spoken → Fault → List ℕ
+faulty_text c reader read s fault = wrong_text c reader (placed_read c reader read s) s fault
+
 -- a read, and what is wrong with it
 abbrev pub fault_text : Clients → ℕ → ℕ → Fault → List ℕ
-fault_text c reader read fault = placed c reader ++ read_text c (spoken_of c reader read fault) (operation_at c reader read) ++ wrong_text c reader read fault
+fault_text c reader read fault = faulty_text c reader read (spoken_of c reader read fault) fault
 
 -- whether the status is this one
 abbrev pub is_status : Status → Status → Bool
@@ -200,18 +204,20 @@ is_status one other = false
 abbrev pub has_status : Status → Transaction → Bool
 has_status status t = is_status status t.status
 
--- the number of transactions, and how they ended
+-- how many transactions there are, and how many committed, aborted or have an unknown end
+abbrev pub counts_of : List Transaction → List (List ℕ)
+counts_of h = map decimal (length h ∷ count_by (has_status Committed) h ∷ count_by (has_status Aborted) h ∷ count_by (has_status Unknown) h ∷ [])
+
+-- the same in a line
 abbrev pub counts_text : List Transaction → List ℕ
-counts_text h = codes "transactions " ++ decimal (length h) ++ codes ": " ++ decimal (count_by (has_status Committed) h)
-    ++ codes " committed, " ++ decimal (count_by (has_status Aborted) h) ++ codes " aborted, "
-    ++ decimal (count_by (has_status Unknown) h) ++ codes " unknown\n"
+counts_text h = filled (codes "transactions #: # committed, # aborted, # unknown\n") (counts_of h)
 
 -- the line on the entries that were skipped, if there are any
 abbrev pub skipped_text : ℕ → List ℕ
 skipped_text n =
     if n == 0 then []
     else if n == 1 then codes "1 entry skipped: no transaction\n"
-    else decimal n ++ codes " entries skipped: no transactions\n"
+    else filled (codes "# entries skipped: no transactions\n") (decimal n ∷ [])
 
 -- a transaction of an order, after a space
 abbrev pub next_text : ℕ → List ℕ
@@ -219,7 +225,7 @@ next_text t = codes " " ++ transaction_text t
 
 -- how many transactions an order has, of which the first ones stand before
 abbrev pub rest_text : ℕ → List ℕ
-rest_text n = codes " .. of " ++ decimal n ++ codes " (--json has the order)"
+rest_text n = filled (codes " .. of # (--json has the order)") (decimal n ∷ [])
 
 -- the transactions of an order; of more than 100 the first 100, and how many there are
 abbrev pub shown_order : List ℕ → List ℕ
@@ -234,13 +240,17 @@ order_text (t ∷ ts) = shown_order (t ∷ ts)
 
 -- the line that names the anomaly
 abbrev pub no_text : List ℕ → List ℕ
-no_text name = codes "serializable no: " ++ name ++ codes "\n"
+no_text name = filled (codes "serializable no: #\n") (name ∷ [])
+
+-- the line of a read, and what is wrong with it
+abbrev pub fault_line : Clients → ℕ → ℕ → Fault → List ℕ
+fault_line c reader read fault = filled (codes "  #\n") (fault_text c reader read fault ∷ [])
 
 -- the lines of a finding
 abbrev pub finding_text : Clients → Finding → List ℕ
 finding_text c (finding.Serial order) = codes "serializable yes:" ++ order_text order.items ++ codes "\n"
 finding_text c (finding.Cycle steps name) = no_text name.now ++ flat_map (step_text c) steps.items
-finding_text c (finding.Fault reader read fault name) = no_text name.now ++ codes "  " ++ fault_text c reader read fault ++ codes "\n"
+finding_text c (finding.Fault reader read fault name) = no_text name.now ++ fault_line c reader read fault
 
 -- the lines of the verdict
 abbrev pub verdict_text : Bool → Clients → Finding → List ℕ

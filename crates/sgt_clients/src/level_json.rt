@@ -2,21 +2,20 @@
 
 ghost use Rattle.std.specs.Prelude.{◌≡◌, ◌++◌, codes, flat_map, OnOk};
 ghost use Rattle.std.specs.Fmt.{decimal};
-ghost use Rattle.sgt_clients.specs.JsonText.{next_item, items_text, order_member};
-ghost use Rattle.sgt_clients.specs.Levels.{strongest_of};
-ghost use Rattle.sgt_clients.specs.TieText.{partial_text};
-ghost use Rattle.sgt_clients.specs.LevelJson.{level_code, strongest_code, answer_text, holds_text, ground_word, tie_object, ties_member, partial_members, ordered_members, writes_members, evidence_members, committed_members, starts_member, split_members, snapshot_members, untimed_members, strict_object, level_objects, strongest_member, levels_members, next_object, level_object, level_members};
+ghost use Rattle.sgt_clients.specs.JsonText.{next_item, items_text, list_text};
+ghost use Rattle.sgt_clients.specs.LevelJson.{level_code, strongest_code, answer_text, holds_text, ground_word, tie_object, ties_members, ordered_members, evidence_members, run_members, split_members, strict_object, level_objects, strongest_member, levels_members, next_object, level_object, level_members};
 
 use crate::clients::Clients;
-use crate::finding::Finding;
-use crate::json_text::{append_ends, append_finding, append_name, append_order, append_reader};
+use crate::item::Item;
+use crate::json_text::{
+    append_cycle, append_finding, append_link, append_name, append_order, append_reader,
+};
 use crate::level::{Answer, Level};
-use crate::level_findings::{LevelFindings, Weaker};
-use crate::piece::entry_of;
-use crate::tie_text::{append_ground, append_partial};
-use crate::unseen_text::append_unseen_member;
-use sgt_format::{append_number, append_numbered};
-use sgt_levels::{Committed, Ground, Partial, Snapshot, Snapshots, Tie, Unseen, Writes};
+use crate::level_findings::LevelFindings;
+use crate::part::Part;
+use crate::unseen_text::append_unseen_in;
+use sgt_format::{append_filled, append_number, append_numbered};
+use sgt_levels::{Committed, Ground, Snapshot, Snapshots, Tie, Unseen, Writes};
 use sgt_model::NoMemory;
 
 /// Appends the members on the strongest level, and on each level.
@@ -38,10 +37,11 @@ pub(crate) fn append_levels(
 fn append_strongest(text: &mut Vec<u8>, strongest: Option<Level>) -> Result<(), NoMemory>
     ensures { OnOk result (text.new.items ≡ text.old.items ++ strongest_member strongest) }
 {
-    text.extend_from_slice(b",\"strongest\":")?;
-    text.extend_from_slice(strongest_code(strongest))?;
-    text.extend_from_slice(b",\"levels\":{")?;
-    Ok(())
+    append_filled(
+        text,
+        b",\"strongest\":#,\"levels\":{",
+        &[Part::Words(strongest_code(strongest))],
+    )
 }
 
 /// The name of the strongest level, or `null`.
@@ -130,11 +130,14 @@ fn append_object(
 fn append_holds(text: &mut Vec<u8>, level: Level, answer: Answer) -> Result<(), NoMemory>
     ensures { OnOk result (text.new.items ≡ text.old.items ++ holds_text level answer) }
 {
-    text.extend_from_slice(level_code(level))?;
-    text.extend_from_slice(b":{\"holds\":\"")?;
-    text.extend_from_slice(answer_text(answer))?;
-    text.extend_from_slice(b"\"")?;
-    Ok(())
+    append_filled(
+        text,
+        b"#:{\"holds\":\"#\"",
+        &[
+            Part::Words(level_code(level)),
+            Part::Words(answer_text(answer)),
+        ],
+    )
 }
 
 /// Appends the evidence of a level, unless it stands before or follows from that of another one.
@@ -147,36 +150,49 @@ fn append_members(
     ensures { OnOk result (text.new.items ≡ text.old.items ++ level_members clients.now found.now level) }
 {
     match level {
-        Level::ReadUncommitted => append_writes(text, clients, &found.weaker),
-        Level::ReadCommitted => append_committed(text, clients, &found.weaker),
-        Level::SnapshotIsolation => append_snapshot(text, clients, &found.weaker),
-        Level::Serializable => append_untimed(text, clients, &found.untimed),
+        Level::ReadUncommitted => match &found.weaker {
+            Some(weaker) => {
+                append_ordered(text, clients, weaker.writes_name, &weaker.levels.writes)
+            }
+            None => Ok(()),
+        },
+        Level::ReadCommitted => match &found.weaker {
+            Some(weaker) => {
+                append_evidence(
+                    text,
+                    clients,
+                    weaker.committed_name,
+                    &weaker.levels.committed,
+                )
+            }
+            None => Ok(()),
+        },
+        Level::SnapshotIsolation => match &found.weaker {
+            Some(weaker) => append_split(
+                text,
+                clients,
+                weaker.snapshot_name,
+                &weaker.unseen,
+                &weaker.levels.snapshot,
+            ),
+            None => Ok(()),
+        },
+        Level::Serializable => match &found.untimed {
+            Some(finding) => append_finding(text, clients, finding),
+            None => Ok(()),
+        },
         Level::StrictSerializable => Ok(()),
     }
 }
 
 /// The word of an answer.
-fn answer_text(answer: Answer) -> &'static [u8]
+pub(crate) fn answer_text(answer: Answer) -> &'static [u8]
     ensures { result.now ≡ answer_text answer }
 {
     match answer {
         Answer::Yes => b"yes",
         Answer::No => b"no",
         Answer::Undecided => b"undecided",
-    }
-}
-
-/// Appends the evidence for read uncommitted, unless it follows from that for read committed.
-fn append_writes(
-    text: &mut Vec<u8>,
-    clients: &Clients,
-    weaker: &Option<Weaker>,
-) -> Result<(), NoMemory>
-    ensures { OnOk result (text.new.items ≡ text.old.items ++ writes_members clients.now weaker.now) }
-{
-    match weaker {
-        Some(weaker) => { append_ordered(text, clients, weaker.writes_name, &weaker.levels.writes) }
-        None => Ok(()),
     }
 }
 
@@ -191,34 +207,23 @@ fn append_ordered(
 {
     match writes {
         Writes::Implied => Ok(()),
-        Writes::Order(order) => append_order(text, order.as_slice()),
-        Writes::Cycle(ties) => {
-            append_name(text, name)?;
-            append_cycle(text, clients, ties.as_slice())
-        }
+        Writes::Order(order) => append_order(text, clients, order.as_slice()),
+        Writes::Cycle(ties) => append_ties(text, clients, name, ties.as_slice()),
         Writes::Open => Ok(()),
     }
 }
 
-/// Appends the evidence for read committed, unless it follows from a serial order.
-fn append_committed(
+/// Appends the anomaly, and its cycle of ties.
+fn append_ties(
     text: &mut Vec<u8>,
     clients: &Clients,
-    weaker: &Option<Weaker>,
+    name: &str,
+    ties: &[Tie],
 ) -> Result<(), NoMemory>
-    ensures { OnOk result (text.new.items ≡ text.old.items ++ committed_members clients.now weaker.now) }
+    ensures { OnOk result (text.new.items ≡ text.old.items ++ ties_members clients.now name.now ties.now) }
 {
-    match weaker {
-        Some(weaker) => {
-            append_evidence(
-                text,
-                clients,
-                weaker.committed_name,
-                &weaker.levels.committed,
-            )
-        }
-        None => Ok(()),
-    }
+    append_name(text, name)?;
+    append_cycle(text, clients, ties)
 }
 
 /// Appends the evidence of an answer for read committed.
@@ -231,102 +236,48 @@ fn append_evidence(
     ensures { OnOk result (text.new.items ≡ text.old.items ++ evidence_members clients.now name.now committed.now) }
 {
     match committed {
-        Committed::Run(order) => append_order(text, order.as_slice()),
+        Committed::Run(order) => append_order(text, clients, order.as_slice()),
         Committed::Fault {
             reader,
             read,
             fault,
         } => {
             append_name(text, name)?;
-            append_reader(text, clients, *reader, *read, fault)
+            let why = Part::Fault(clients, *reader, *read, fault);
+            append_reader(text, clients, *reader, why)
         }
         Committed::Partial(partial) => {
             append_name(text, name)?;
-            append_partial_members(text, clients, partial)
+            append_reader(
+                text,
+                clients,
+                partial.reader,
+                Part::Partial(clients, partial),
+            )
         }
-        Committed::Cycle(ties) => {
-            append_name(text, name)?;
-            append_cycle(text, clients, ties.as_slice())
-        }
+        Committed::Cycle(ties) => append_ties(text, clients, name, ties.as_slice()),
         Committed::Open => Ok(()),
     }
 }
 
-/// Appends the members on a partial read.
-pub(crate) fn append_partial_members(
-    text: &mut Vec<u8>,
-    clients: &Clients,
-    partial: &Partial,
-) -> Result<(), NoMemory>
-    ensures { OnOk result (text.new.items ≡ text.old.items ++ partial_members clients.now partial.now) }
-{
-    append_numbered(text, b",\"reader\":", partial.reader.saturating_add(1))?;
-    append_numbered(text, b",\"entry\":", entry_of(clients, partial.reader))?;
-    append_partial_why(text, clients, partial)
-}
+impl Item for Tie {
+    ghost object = { tie_object };
 
-/// Appends the member with the words on a partial read.
-fn append_partial_why(
-    text: &mut Vec<u8>,
-    clients: &Clients,
-    partial: &Partial,
-) -> Result<(), NoMemory>
-    ensures { OnOk result (text.new.items ≡ text.old.items ++ (codes ",\"why\":\"" ++ partial_text clients.now partial.now ++ codes "\"")) }
-{
-    text.extend_from_slice(b",\"why\":\"")?;
-    append_partial(text, clients, partial)?;
-    text.extend_from_slice(b"\"")?;
-    Ok(())
-}
-
-/// Appends the member with a cycle of ties.
-pub(crate) fn append_cycle(
-    text: &mut Vec<u8>,
-    clients: &Clients,
-    ties: &[Tie],
-) -> Result<(), NoMemory>
-    ensures { OnOk result (text.new.items ≡ text.old.items ++ ties_member clients.now ties.now) }
-{
-    text.extend_from_slice(b",\"cycle\":[")?;
-    append_ties(text, clients, ties)?;
-    text.extend_from_slice(b"]")?;
-    Ok(())
-}
-
-/// Appends the ties, separated by commas.
-fn append_ties(text: &mut Vec<u8>, clients: &Clients, ties: &[Tie]) -> Result<(), NoMemory>
-    ensures { OnOk result (text.new.items ≡ text.old.items ++ items_text (tie_object clients.now) ties.now) }
-{
-    if ties.is_empty() {
-        return Ok(());
+    fn append_object(&self, text: &mut Vec<u8>, clients: &Clients) -> Result<(), NoMemory> {
+        let why = Part::Ground(clients, self.from, self.to, self.ground);
+        append_link(
+            text,
+            clients,
+            self.from,
+            self.to,
+            ground_word(self.ground),
+            why,
+        )
     }
-    append_tie(text, clients, &ties[0])?;
-    append_each_tie(text, clients, &ties[1..])
-}
-
-/// Appends each tie after a comma.
-fn append_each_tie(text: &mut Vec<u8>, clients: &Clients, ties: &[Tie]) -> Result<(), NoMemory>
-    ensures { OnOk result (text.new.items ≡ text.old.items ++ flat_map (next_item (tie_object clients.now)) ties.now) }
-{
-    for tie in ties {
-        text.extend_from_slice(b",")?;
-        append_tie(text, clients, tie)?;
-    }
-    Ok(())
-}
-
-/// Appends a tie.
-pub(crate) fn append_tie(text: &mut Vec<u8>, clients: &Clients, tie: &Tie) -> Result<(), NoMemory>
-    ensures { OnOk result (text.new.items ≡ text.old.items ++ tie_object clients.now tie.now) }
-{
-    append_ends(text, clients, tie.from, tie.to, ground_word(tie.ground))?;
-    append_ground(text, clients, tie)?;
-    text.extend_from_slice(b"\"}")?;
-    Ok(())
 }
 
 /// The kind of the reason of a tie, in a word or two.
-fn ground_word(ground: Ground) -> &'static [u8]
+pub(crate) fn ground_word(ground: Ground) -> &'static [u8]
     ensures { result.now ≡ ground_word ground }
 {
     match ground {
@@ -335,26 +286,6 @@ fn ground_word(ground: Ground) -> &'static [u8]
         Ground::Late { .. } => b"late",
         Ground::Wait { .. } => b"wait",
         Ground::Missed { .. } => b"missed",
-    }
-}
-
-/// Appends the evidence for snapshot isolation, unless it follows from a serial order.
-fn append_snapshot(
-    text: &mut Vec<u8>,
-    clients: &Clients,
-    weaker: &Option<Weaker>,
-) -> Result<(), NoMemory>
-    ensures { OnOk result (text.new.items ≡ text.old.items ++ snapshot_members clients.now weaker.now) }
-{
-    match weaker {
-        Some(weaker) => append_split(
-            text,
-            clients,
-            weaker.snapshot_name,
-            &weaker.unseen,
-            &weaker.levels.snapshot,
-        ),
-        None => Ok(()),
     }
 }
 
@@ -369,27 +300,28 @@ fn append_split(
     ensures { OnOk result (text.new.items ≡ text.old.items ++ split_members clients.now name.now unseen.now snapshot.now) }
 {
     match snapshot {
-        Snapshot::Run(run) => append_run(text, run),
+        Snapshot::Run(run) => append_run(text, clients, run),
         Snapshot::NotCommitted => Ok(()),
-        Snapshot::Cycle(ties) => {
-            append_name(text, name)?;
-            append_cycle(text, clients, ties.as_slice())
-        }
-        Snapshot::Open => append_unseen_member(text, clients, unseen),
+        Snapshot::Cycle(ties) => append_ties(text, clients, name, ties.as_slice()),
+        Snapshot::Open => append_unseen_in(text, clients, b",\"why\":\"#\"", unseen),
     }
 }
 
 /// Appends the order of commits, and the starts.
-pub(crate) fn append_run(text: &mut Vec<u8>, run: &Snapshots) -> Result<(), NoMemory>
-    ensures { OnOk result (text.new.items ≡ text.old.items ++ (order_member run.now.order.items ++ starts_member run.now.starts.items)) }
+pub(crate) fn append_run(
+    text: &mut Vec<u8>,
+    clients: &Clients,
+    run: &Snapshots,
+) -> Result<(), NoMemory>
+    ensures { OnOk result (text.new.items ≡ text.old.items ++ run_members run.now) }
 {
-    append_order(text, run.order.as_slice())?;
+    append_order(text, clients, run.order.as_slice())?;
     append_starts(text, run.starts.as_slice())
 }
 
 /// Appends how many of the order had committed when each began.
 fn append_starts(text: &mut Vec<u8>, starts: &[usize]) -> Result<(), NoMemory>
-    ensures { OnOk result (text.new.items ≡ text.old.items ++ starts_member starts.now) }
+    ensures { OnOk result (text.new.items ≡ text.old.items ++ list_text (codes ",\"starts\":[") decimal starts.now) }
 {
     text.extend_from_slice(b",\"starts\":[")?;
     append_counts(text, starts)?;
@@ -416,18 +348,4 @@ fn append_each_count(text: &mut Vec<u8>, counts: &[usize]) -> Result<(), NoMemor
         append_numbered(text, b",", *count)?;
     }
     Ok(())
-}
-
-/// Appends the evidence on serializability, if there is a finding of its own on that.
-fn append_untimed(
-    text: &mut Vec<u8>,
-    clients: &Clients,
-    untimed: &Option<Finding>,
-) -> Result<(), NoMemory>
-    ensures { OnOk result (text.new.items ≡ text.old.items ++ untimed_members clients.now untimed.now) }
-{
-    match untimed {
-        Some(finding) => append_finding(text, clients, finding),
-        None => Ok(()),
-    }
 }

@@ -1,21 +1,18 @@
 //! The lines on the levels of isolation: the strongest that holds, and what breaks the next one.
 
-ghost use Rattle.std.specs.Prelude.{◌≡◌, ◌++◌, codes, flat_map, OnOk};
-ghost use Rattle.sgt_clients.specs.ReportText.{step_text};
-ghost use Rattle.sgt_clients.specs.TieText.{tie_text};
-ghost use Rattle.sgt_clients.specs.Levels.{strongest_of};
-ghost use Rattle.sgt_clients.specs.LevelText.{level_words, strongest_words, strongest_text, not_text, above_text, unordered_text, writes_text, fault_line, broken_text, committed_text, open_text, split_text, snapshot_text, unserial_text, untimed_text, next_text, levels_text};
+ghost use Rattle.std.specs.Prelude.{◌≡◌, ◌++◌, flat_map, OnOk};
+ghost use Rattle.sgt_clients.specs.LevelText.{level_words, strongest_words, strongest_text, not_text, above_text, undecided_text, ties_text, unordered_text, broken_text, committed_text, open_text, split_text, snapshot_text, unserial_text, untimed_text, next_text, levels_text};
+ghost use Rattle.sgt_clients.specs.TieText.{tie_text, partial_line};
 
 use crate::clients::Clients;
-use crate::finding::{Finding, Step};
+use crate::finding::Finding;
 use crate::level::Level;
 use crate::level_findings::{LevelFindings, Weaker};
-use crate::report_text::append_steps;
-use crate::tie_text::{append_partial_line, append_ties};
-use crate::unseen_text::append_unseen_line;
-use crate::witness_text::append_fault;
-use sgt_appends::Fault;
-use sgt_levels::{Committed, Snapshot, Tie, Unseen, Writes};
+use crate::part::Part;
+use crate::report_text::{append_fault_line, append_link, append_steps};
+use crate::unseen_text::append_unseen_in;
+use sgt_format::append_filled;
+use sgt_levels::{Committed, Partial, Snapshot, Tie, Unseen, Writes};
 use sgt_model::NoMemory;
 
 /// Appends the lines on the levels.
@@ -36,10 +33,11 @@ pub(crate) fn append_levels(
 fn append_strongest(text: &mut Vec<u8>, strongest: Option<Level>) -> Result<(), NoMemory>
     ensures { OnOk result (text.new.items ≡ text.old.items ++ strongest_text strongest) }
 {
-    text.extend_from_slice(b"strongest level: ")?;
-    text.extend_from_slice(strongest_words(strongest))?;
-    text.extend_from_slice(b"\n")?;
-    Ok(())
+    append_filled(
+        text,
+        b"strongest level: #\n",
+        &[Part::Words(strongest_words(strongest))],
+    )
 }
 
 /// The name of the strongest level, or `none`.
@@ -75,9 +73,20 @@ fn append_next(
     ensures { OnOk result (text.new.items ≡ text.old.items ++ next_text clients.now found.now strongest) }
 {
     match strongest {
-        None => append_writes(text, clients, &found.weaker),
-        Some(Level::ReadUncommitted) => append_committed(text, clients, &found.weaker),
-        Some(Level::ReadCommitted) => append_snapshot(text, clients, &found.weaker),
+        None => match &found.weaker {
+            Some(weaker) => {
+                append_unordered(text, clients, weaker.writes_name, &weaker.levels.writes)
+            }
+            None => Ok(()),
+        },
+        Some(Level::ReadUncommitted) => match &found.weaker {
+            Some(weaker) => append_committed(text, clients, weaker),
+            None => Ok(()),
+        },
+        Some(Level::ReadCommitted) => match &found.weaker {
+            Some(weaker) => append_snapshot(text, clients, weaker),
+            None => Ok(()),
+        },
         Some(Level::SnapshotIsolation) => append_untimed(text, clients, found),
         Some(Level::Serializable) => Ok(()),
         Some(Level::StrictSerializable) => Ok(()),
@@ -85,45 +94,71 @@ fn append_next(
 }
 
 /// Appends the line that a level does not hold, with the name of the anomaly.
-fn append_not(text: &mut Vec<u8>, words: &[u8], name: &str) -> Result<(), NoMemory>
-    ensures { OnOk result (text.new.items ≡ text.old.items ++ not_text words.now name.now) }
+fn append_not(text: &mut Vec<u8>, level: Level, name: &str) -> Result<(), NoMemory>
+    ensures { OnOk result (text.new.items ≡ text.old.items ++ not_text level name.now) }
 {
-    text.extend_from_slice(words)?;
-    text.extend_from_slice(name.as_bytes())?;
-    text.extend_from_slice(b"\n")?;
-    Ok(())
+    append_filled(
+        text,
+        b"not #: #\n",
+        &[
+            Part::Words(level_words(level)),
+            Part::Words(name.as_bytes()),
+        ],
+    )
 }
 
-/// Appends the line of a read, and what is wrong with it.
-pub(crate) fn append_fault_line(
-    text: &mut Vec<u8>,
-    clients: &Clients,
-    reader: usize,
-    read: usize,
-    fault: &Fault,
-) -> Result<(), NoMemory>
-    ensures { OnOk result (text.new.items ≡ text.old.items ++ fault_line clients.now reader read fault.now) }
+/// Appends that what stands above breaks a level as well.
+fn append_above(text: &mut Vec<u8>, level: Level) -> Result<(), NoMemory>
+    ensures { OnOk result (text.new.items ≡ text.old.items ++ above_text level) }
 {
-    text.extend_from_slice(b"  ")?;
-    append_fault(text, clients, reader, read, fault)?;
-    text.extend_from_slice(b"\n")?;
-    Ok(())
+    append_not(text, level, "by the lines above")
 }
 
-/// Appends what breaks read uncommitted.
-fn append_writes(
+/// Appends that there is no answer for a level.
+fn append_undecided(text: &mut Vec<u8>, level: Level) -> Result<(), NoMemory>
+    ensures { OnOk result (text.new.items ≡ text.old.items ++ undecided_text level) }
+{
+    append_filled(text, b"# undecided\n", &[Part::Words(level_words(level))])
+}
+
+/// Appends that a level does not hold, and a cycle of ties.
+fn append_not_ties(
     text: &mut Vec<u8>,
     clients: &Clients,
-    weaker: &Option<Weaker>,
+    level: Level,
+    name: &str,
+    ties: &[Tie],
 ) -> Result<(), NoMemory>
-    ensures { OnOk result (text.new.items ≡ text.old.items ++ writes_text clients.now weaker.now) }
+    ensures { OnOk result (text.new.items ≡ text.old.items ++ ties_text clients.now level name.now ties.now) }
 {
-    match weaker {
-        Some(weaker) => {
-            append_unordered(text, clients, weaker.writes_name, &weaker.levels.writes)
-        }
-        None => Ok(()),
+    append_not(text, level, name)?;
+    append_ties(text, clients, ties)
+}
+
+/// Appends a line for each tie.
+pub(crate) fn append_ties(
+    text: &mut Vec<u8>,
+    clients: &Clients,
+    ties: &[Tie],
+) -> Result<(), NoMemory>
+    ensures { OnOk result (text.new.items ≡ text.old.items ++ flat_map (tie_text clients.now) ties.now) }
+{
+    for tie in ties {
+        let why = Part::Ground(clients, tie.from, tie.to, tie.ground);
+        append_link(text, clients, tie.from, tie.to, why)?;
     }
+    Ok(())
+}
+
+/// Appends the line of a partial read.
+pub(crate) fn append_partial_line(
+    text: &mut Vec<u8>,
+    clients: &Clients,
+    partial: &Partial,
+) -> Result<(), NoMemory>
+    ensures { OnOk result (text.new.items ≡ text.old.items ++ partial_line clients.now partial.now) }
+{
+    append_filled(text, b"  #\n", &[Part::Partial(clients, partial)])
 }
 
 /// Appends the lines of an answer for read uncommitted that is no yes.
@@ -141,53 +176,27 @@ fn append_unordered(
         Writes::Cycle(ties) => append_not_ties(
             text,
             clients,
-            b"not read uncommitted: ",
+            Level::ReadUncommitted,
             name,
             ties.as_slice(),
         ),
-        Writes::Open => append_writes_open(text),
+        Writes::Open => append_undecided(text, Level::ReadUncommitted),
     }
-}
-
-/// Appends that there is no answer for read uncommitted.
-fn append_writes_open(text: &mut Vec<u8>) -> Result<(), NoMemory>
-    ensures { OnOk result (text.new.items ≡ text.old.items ++ codes "read uncommitted undecided\n") }
-{
-    text.extend_from_slice(b"read uncommitted undecided\n")?;
-    Ok(())
 }
 
 /// Appends what breaks read committed.
-fn append_committed(
-    text: &mut Vec<u8>,
-    clients: &Clients,
-    weaker: &Option<Weaker>,
-) -> Result<(), NoMemory>
+fn append_committed(text: &mut Vec<u8>, clients: &Clients, weaker: &Weaker) -> Result<(), NoMemory>
     ensures { OnOk result (text.new.items ≡ text.old.items ++ committed_text clients.now weaker.now) }
 {
-    match weaker {
-        Some(weaker) => {
-            if weaker.committed_above {
-                return append_above(text, b"not read committed: ");
-            }
-            append_broken(
-                text,
-                clients,
-                weaker.committed_name,
-                &weaker.levels.committed,
-            )
-        }
-        None => Ok(()),
+    if weaker.committed_above {
+        return append_above(text, Level::ReadCommitted);
     }
-}
-
-/// Appends that what stands above breaks a level as well.
-pub(crate) fn append_above(text: &mut Vec<u8>, words: &[u8]) -> Result<(), NoMemory>
-    ensures { OnOk result (text.new.items ≡ text.old.items ++ above_text words.now) }
-{
-    text.extend_from_slice(words)?;
-    text.extend_from_slice(b"by the lines above\n")?;
-    Ok(())
+    append_broken(
+        text,
+        clients,
+        weaker.committed_name,
+        &weaker.levels.committed,
+    )
 }
 
 /// Appends the lines of an answer for read committed that is no yes.
@@ -206,69 +215,38 @@ fn append_broken(
             read,
             fault,
         } => {
-            append_not(text, b"not read committed: ", name)?;
+            append_not(text, Level::ReadCommitted, name)?;
             append_fault_line(text, clients, *reader, *read, fault)
         }
         Committed::Partial(partial) => {
-            append_not(text, b"not read committed: ", name)?;
+            append_not(text, Level::ReadCommitted, name)?;
             append_partial_line(text, clients, partial)
         }
         Committed::Cycle(ties) => append_not_ties(
             text,
             clients,
-            b"not read committed: ",
+            Level::ReadCommitted,
             name,
             ties.as_slice(),
         ),
-        Committed::Open => append_committed_open(text),
+        Committed::Open => append_undecided(text, Level::ReadCommitted),
     }
-}
-
-/// Appends that there is no answer for read committed.
-fn append_committed_open(text: &mut Vec<u8>) -> Result<(), NoMemory>
-    ensures { OnOk result (text.new.items ≡ text.old.items ++ codes "read committed undecided\n") }
-{
-    text.extend_from_slice(b"read committed undecided\n")?;
-    Ok(())
-}
-
-/// Appends that a level does not hold, and a cycle of ties.
-fn append_not_ties(
-    text: &mut Vec<u8>,
-    clients: &Clients,
-    words: &[u8],
-    name: &str,
-    ties: &[Tie],
-) -> Result<(), NoMemory>
-    ensures { OnOk result (text.new.items ≡ text.old.items ++ (not_text words.now name.now ++ flat_map (tie_text clients.now) ties.now)) }
-{
-    append_not(text, words, name)?;
-    append_ties(text, clients, ties)
 }
 
 /// Appends what breaks snapshot isolation.
-fn append_snapshot(
-    text: &mut Vec<u8>,
-    clients: &Clients,
-    weaker: &Option<Weaker>,
-) -> Result<(), NoMemory>
+fn append_snapshot(text: &mut Vec<u8>, clients: &Clients, weaker: &Weaker) -> Result<(), NoMemory>
     ensures { OnOk result (text.new.items ≡ text.old.items ++ snapshot_text clients.now weaker.now) }
 {
-    match weaker {
-        Some(weaker) => {
-            if weaker.snapshot_above {
-                return append_above(text, b"not snapshot isolation: ");
-            }
-            append_split(
-                text,
-                clients,
-                weaker.snapshot_name,
-                &weaker.unseen,
-                &weaker.levels.snapshot,
-            )
-        }
-        None => Ok(()),
+    if weaker.snapshot_above {
+        return append_above(text, Level::SnapshotIsolation);
     }
+    append_split(
+        text,
+        clients,
+        weaker.snapshot_name,
+        &weaker.unseen,
+        &weaker.levels.snapshot,
+    )
 }
 
 /// Appends the lines of an answer for snapshot isolation that is no yes, where read committed holds.
@@ -287,7 +265,7 @@ fn append_split(
         Snapshot::Cycle(ties) => append_not_ties(
             text,
             clients,
-            b"not snapshot isolation: ",
+            Level::SnapshotIsolation,
             name,
             ties.as_slice(),
         ),
@@ -306,7 +284,7 @@ fn append_open(
     text.extend_from_slice(
         b"snapshot isolation undecided: no read saw which of two appends to a key came first\n",
     )?;
-    append_unseen_line(text, clients, unseen)
+    append_unseen_in(text, clients, b"  #\n", unseen)
 }
 
 /// Appends what breaks serializability, if the lines before are on real time.
@@ -318,7 +296,7 @@ fn append_untimed(
     ensures { OnOk result (text.new.items ≡ text.old.items ++ untimed_text clients.now found.now) }
 {
     if found.serial_above {
-        return append_above(text, b"not serializable: ");
+        return append_above(text, Level::Serializable);
     }
     match &found.untimed {
         Some(finding) => append_unserial(text, clients, finding),
@@ -332,28 +310,18 @@ fn append_unserial(text: &mut Vec<u8>, clients: &Clients, finding: &Finding) -> 
 {
     match finding {
         Finding::Serial(_) => Ok(()),
-        Finding::Cycle(steps, name) => append_not_steps(text, clients, name, steps.as_slice()),
+        Finding::Cycle(steps, name) => {
+            append_not(text, Level::Serializable, name)?;
+            append_steps(text, clients, steps.as_slice())
+        }
         Finding::Fault {
             reader,
             read,
             fault,
             name,
         } => {
-            append_not(text, b"not serializable: ", name)?;
+            append_not(text, Level::Serializable, name)?;
             append_fault_line(text, clients, *reader, *read, fault)
         }
     }
-}
-
-/// Appends that what was seen is not serializable, and the steps of a cycle.
-fn append_not_steps(
-    text: &mut Vec<u8>,
-    clients: &Clients,
-    name: &str,
-    steps: &[Step],
-) -> Result<(), NoMemory>
-    ensures { OnOk result (text.new.items ≡ text.old.items ++ (not_text (codes "not serializable: ") name.now ++ flat_map (step_text clients.now) steps.now)) }
-{
-    append_not(text, b"not serializable: ", name)?;
-    append_steps(text, clients, steps)
 }

@@ -1,12 +1,12 @@
-//! Texts made of pieces.
+//! The pieces of which the texts on what clients saw are made.
 
 ghost use Rattle.std.specs.Prelude.{◌≡◌, ◌++◌, flat_map, OnOk};
-ghost use Rattle.sgt_clients.specs.ReportText.{entry_of, placed, key_text, spaced, next_value, left_out_text, shown_text, values_text};
+ghost use Rattle.sgt_clients.specs.ReportText.{entry_of, transaction_text, placed, key_text, operation_at, value_at, key_at, seen_text, read_text, spaced, next_value, left_out_text, shown_text, values_text};
 ghost use Rattle.sgt_clients.specs.Pieces.{piece_text};
 
 use crate::clients::Clients;
-use crate::evidence::Spoken;
-use sgt_format::{append_number, append_numbered};
+use crate::evidence::{Seen, Spoken, put_at, seen_at, value_at};
+use sgt_format::{Spelled, append_number, append_numbered};
 use sgt_model::NoMemory;
 
 /// How many values of a long list are shown: the last ones.
@@ -15,54 +15,74 @@ const MOST_SHOWN: usize = 16;
 /// A piece of a text on what clients saw.
 #[derive(Clone, Copy)]
 pub(crate) enum Piece<'a> {
-    /// These words.
-    Words(&'a [u8]),
-    /// The number.
-    Number(usize),
     /// The value, which is stored by its bits.
     Value(u64),
-    /// The transaction: `t3`.
-    Transaction(usize),
-    /// The transaction and its entry: `t3 (line 7)`.
-    Placed(usize),
+    /// The value of the append at the position of the transaction.
+    ValueAt(&'a Clients, usize, usize),
     /// The text of the key.
-    Key(u32),
+    Key(&'a Clients, u32),
+    /// The text of the key of the append at the position of the transaction.
+    KeyAt(&'a Clients, usize, usize),
     /// The values in brackets, separated by spaces: `[1 2]`. Of a long list only the last ones are shown, and those that
     /// are spoken of.
     Values(&'a [u64], Spoken),
+    /// The transaction: `t3`.
+    Transaction(usize),
+    /// The transaction and its entry: `t3 (line 7)`.
+    Placed(&'a Clients, usize),
+    /// The transaction and the read at the position of it: `t3 read key x as [1 2]`.
+    Read(&'a Clients, usize, usize, Spoken),
+    /// The same with the entry of the transaction.
+    PlacedRead(&'a Clients, usize, usize, Spoken),
 }
 
-/// Appends the pieces in order.
-pub(crate) fn append_pieces(
-    text: &mut Vec<u8>,
-    clients: &Clients,
-    pieces: &[Piece<'_>],
-) -> Result<(), NoMemory>
-    ensures { OnOk result (text.new.items ≡ text.old.items ++ flat_map (piece_text clients.now) pieces.now) }
-{
-    for piece in pieces {
-        append_piece(text, clients, piece)?;
+impl Spelled for Piece<'_> {
+    ghost spelled = { piece_text };
+
+    fn append_to(&self, text: &mut Vec<u8>) -> Result<(), NoMemory> {
+        match self {
+            Piece::Value(value) => Ok(append_number(text, value.cast_signed())?),
+            Piece::ValueAt(clients, transaction, position) => append_value_at(
+                text,
+                clients,
+                *transaction,
+                *position,
+            ),
+            Piece::Key(clients, key) => append_key(text, clients, *key),
+            Piece::KeyAt(clients, transaction, position) => append_key_at(
+                text,
+                clients,
+                *transaction,
+                *position,
+            ),
+            Piece::Values(values, spoken) => append_values(text, values, *spoken),
+            Piece::Transaction(number) => append_transaction(text, *number),
+            Piece::Placed(clients, number) => append_placed(text, clients, *number),
+            Piece::Read(clients, reader, read, spoken) => {
+                append_transaction(text, *reader)?;
+                append_read(text, clients, *reader, *read, *spoken)
+            }
+            Piece::PlacedRead(clients, reader, read, spoken) => {
+                append_placed(text, clients, *reader)?;
+                append_read(text, clients, *reader, *read, *spoken)
+            }
+        }
     }
-    Ok(())
 }
 
-/// Appends the piece.
-fn append_piece(text: &mut Vec<u8>, clients: &Clients, piece: &Piece<'_>) -> Result<(), NoMemory>
-    ensures { OnOk result (text.new.items ≡ text.old.items ++ piece_text clients.now piece.now) }
+/// Appends the transaction.
+pub(crate) fn append_transaction(text: &mut Vec<u8>, number: usize) -> Result<(), NoMemory>
+    ensures { OnOk result (text.new.items ≡ text.old.items ++ transaction_text number) }
 {
-    match piece {
-        Piece::Words(words) => Ok(text.extend_from_slice(words)?),
-        Piece::Number(number) => Ok(append_number(text, *number)?),
-        Piece::Value(value) => Ok(append_number(text, value.cast_signed())?),
-        Piece::Transaction(number) => Ok(append_numbered(text, b"t", number.saturating_add(1))?),
-        Piece::Placed(number) => append_placed(text, clients, *number),
-        Piece::Key(key) => append_key(text, clients, *key),
-        Piece::Values(values, spoken) => append_values(text, values, *spoken),
-    }
+    Ok(append_numbered(text, b"t", number.saturating_add(1))?)
 }
 
 /// Appends the transaction and its entry.
-fn append_placed(text: &mut Vec<u8>, clients: &Clients, number: usize) -> Result<(), NoMemory>
+pub(crate) fn append_placed(
+    text: &mut Vec<u8>,
+    clients: &Clients,
+    number: usize,
+) -> Result<(), NoMemory>
     ensures { OnOk result (text.new.items ≡ text.old.items ++ placed clients.now number) }
 {
     append_numbered(text, b"t", number.saturating_add(1))?;
@@ -94,6 +114,67 @@ fn append_key(text: &mut Vec<u8>, clients: &Clients, key: u32) -> Result<(), NoM
         text.extend_from_slice(name.as_slice())?;
     }
     Ok(())
+}
+
+/// Appends the value of the append at the position, if there is one.
+fn append_value_at(
+    text: &mut Vec<u8>,
+    clients: &Clients,
+    transaction: usize,
+    position: usize,
+) -> Result<(), NoMemory>
+    ensures { OnOk result (text.new.items ≡ text.old.items ++ value_at clients.now transaction position) }
+{
+    match value_at(clients, transaction, position) {
+        Some(value) => Ok(append_number(text, value.cast_signed())?),
+        None => Ok(()),
+    }
+}
+
+/// Appends the text of the key of the append at the position, if there is one.
+fn append_key_at(
+    text: &mut Vec<u8>,
+    clients: &Clients,
+    transaction: usize,
+    position: usize,
+) -> Result<(), NoMemory>
+    ensures { OnOk result (text.new.items ≡ text.old.items ++ key_at clients.now transaction position) }
+{
+    match put_at(clients, transaction, position) {
+        Some(put) => append_key(text, clients, put.key),
+        None => Ok(()),
+    }
+}
+
+/// Appends the key and the values of the read at the position, if there is one.
+fn append_read(
+    text: &mut Vec<u8>,
+    clients: &Clients,
+    reader: usize,
+    read: usize,
+    spoken: Spoken,
+) -> Result<(), NoMemory>
+    ensures { OnOk result (text.new.items ≡ text.old.items ++ read_text clients.now spoken (operation_at clients.now reader read)) }
+{
+    match seen_at(clients, reader, read) {
+        Some(seen) => append_seen(text, clients, seen, spoken),
+        None => Ok(()),
+    }
+}
+
+/// Appends the key and the values that were read.
+fn append_seen(
+    text: &mut Vec<u8>,
+    clients: &Clients,
+    seen: Seen<'_>,
+    spoken: Spoken,
+) -> Result<(), NoMemory>
+    ensures { OnOk result (text.new.items ≡ text.old.items ++ seen_text clients.now spoken (seen.entry.key, seen.entry.values.now)) }
+{
+    text.extend_from_slice(b" read key ")?;
+    append_key(text, clients, seen.key)?;
+    text.extend_from_slice(b" as ")?;
+    append_values(text, seen.values, spoken)
 }
 
 /// Appends the values in brackets.

@@ -1,21 +1,20 @@
 //! The lines of a report.
 
-ghost use Rattle.std.specs.Prelude.{◌≡◌, ◌++◌, Bool, List, [], codes, flat_map, if◌then◌else◌, OnOk};
-ghost use Rattle.sgt_clients.specs.ReportText.{verdict_text, finding_text, counts_text, skipped_text, order_text, shown_order, rest_text, next_text, no_text, step_text, why_text};
+ghost use Rattle.std.specs.Prelude.{◌≡◌, ◌++◌, [], codes, flat_map, if◌then◌else◌, OnOk};
+ghost use Rattle.sgt_clients.specs.Pieces.{part_text};
+ghost use Rattle.sgt_clients.specs.ReportText.{verdict_text, finding_text, counts_text, skipped_text, order_text, shown_order, rest_text, next_text, no_text, fault_line, link_text, step_text};
 ghost use Rattle.sgt_clients.specs.Reports.{report_text};
-ghost use Rattle.sgt_clients.specs.declared.finding.Why.TheVariants.{RealTime};
 
 use crate::anomaly_text::append_anomalies;
 use crate::clients::Clients;
 use crate::counts::count;
-use crate::finding::{Finding, Step, Why};
+use crate::finding::{Finding, Step};
 use crate::level_findings::LevelFindings;
 use crate::level_text::append_levels;
 use crate::order_text::append_orders;
-use crate::piece::{Piece, append_pieces};
-use crate::witness_text::{append_fault, append_reason};
-use sgt_appends::Transaction;
-use sgt_format::{append_number, append_numbered};
+use crate::part::Part;
+use sgt_appends::{Fault, Transaction};
+use sgt_format::{append_filled, append_numbered};
 use sgt_model::NoMemory;
 
 /// Appends the lines of a report.
@@ -79,10 +78,7 @@ fn append_finding(text: &mut Vec<u8>, clients: &Clients, finding: &Finding) -> R
             name,
         } => {
             append_no(text, name)?;
-            text.extend_from_slice(b"  ")?;
-            append_fault(text, clients, *reader, *read, fault)?;
-            text.extend_from_slice(b"\n")?;
-            Ok(())
+            append_fault_line(text, clients, *reader, *read, fault)
         }
     }
 }
@@ -92,12 +88,16 @@ fn append_counts(text: &mut Vec<u8>, history: &[Transaction]) -> Result<(), NoMe
     ensures { OnOk result (text.new.items ≡ text.old.items ++ counts_text history.now) }
 {
     let counts = count(history);
-    append_numbered(text, b"transactions ", counts.transactions)?;
-    append_numbered(text, b": ", counts.committed)?;
-    append_numbered(text, b" committed, ", counts.aborted)?;
-    append_numbered(text, b" aborted, ", counts.unknown)?;
-    text.extend_from_slice(b" unknown\n")?;
-    Ok(())
+    append_filled(
+        text,
+        b"transactions #: # committed, # aborted, # unknown\n",
+        &[
+            counts.transactions,
+            counts.committed,
+            counts.aborted,
+            counts.unknown,
+        ],
+    )
 }
 
 /// Appends the line on the entries that were skipped, if there are any.
@@ -105,14 +105,10 @@ fn append_skipped(text: &mut Vec<u8>, skipped: usize) -> Result<(), NoMemory>
     ensures { OnOk result (text.new.items ≡ text.old.items ++ skipped_text skipped) }
 {
     match skipped {
-        0 => (),
-        1 => text.extend_from_slice(b"1 entry skipped: no transaction\n")?,
-        _ => {
-            append_number(text, skipped)?;
-            text.extend_from_slice(b" entries skipped: no transactions\n")?;
-        }
+        0 => Ok(()),
+        1 => Ok(text.extend_from_slice(b"1 entry skipped: no transaction\n")?),
+        _ => append_filled(text, b"# entries skipped: no transactions\n", &[skipped]),
     }
-    Ok(())
 }
 
 /// Appends the line of a serial order.
@@ -151,9 +147,7 @@ fn append_shown(text: &mut Vec<u8>, order: &[usize]) -> Result<(), NoMemory>
 fn append_rest(text: &mut Vec<u8>, count: usize) -> Result<(), NoMemory>
     ensures { OnOk result (text.new.items ≡ text.old.items ++ rest_text count) }
 {
-    append_numbered(text, b" .. of ", count)?;
-    text.extend_from_slice(b" (--json has the order)")?;
-    Ok(())
+    append_filled(text, b" .. of # (--json has the order)", &[count])
 }
 
 /// Appends each transaction after a space.
@@ -170,10 +164,24 @@ fn append_each(text: &mut Vec<u8>, order: &[usize]) -> Result<(), NoMemory>
 fn append_no(text: &mut Vec<u8>, name: &str) -> Result<(), NoMemory>
     ensures { OnOk result (text.new.items ≡ text.old.items ++ no_text name.now) }
 {
-    text.extend_from_slice(b"serializable no: ")?;
-    text.extend_from_slice(name.as_bytes())?;
-    text.extend_from_slice(b"\n")?;
-    Ok(())
+    append_filled(
+        text,
+        b"serializable no: #\n",
+        &[Part::Words(name.as_bytes())],
+    )
+}
+
+/// Appends the line of a read, and what is wrong with it.
+pub(crate) fn append_fault_line(
+    text: &mut Vec<u8>,
+    clients: &Clients,
+    reader: usize,
+    read: usize,
+    fault: &Fault,
+) -> Result<(), NoMemory>
+    ensures { OnOk result (text.new.items ≡ text.old.items ++ fault_line clients.now reader read fault.now) }
+{
+    append_filled(text, b"  #\n", &[Part::Fault(clients, reader, read, fault)])
 }
 
 /// Appends a line for each step.
@@ -185,57 +193,25 @@ pub(crate) fn append_steps(
     ensures { OnOk result (text.new.items ≡ text.old.items ++ flat_map (step_text clients.now) steps.now) }
 {
     for step in steps {
-        append_step(text, clients, step)?;
+        let why = Part::Why(clients, step.from, step.to, step.why);
+        append_link(text, clients, step.from, step.to, why)?;
     }
     Ok(())
 }
 
-/// Appends the line of a step.
-pub(crate) fn append_step(
+/// Appends the line that the first transaction comes before the second, and why.
+pub(crate) fn append_link(
     text: &mut Vec<u8>,
     clients: &Clients,
-    step: &Step,
+    from: usize,
+    to: usize,
+    why: Part<'_>,
 ) -> Result<(), NoMemory>
-    ensures { OnOk result (text.new.items ≡ text.old.items ++ step_text clients.now step.now) }
+    ensures { OnOk result (text.new.items ≡ text.old.items ++ link_text clients.now from to (part_text why.entry)) }
 {
-    append_pieces(
+    append_filled(
         text,
-        clients,
-        &[
-            Piece::Words(b"  "),
-            Piece::Placed(step.from),
-            Piece::Words(b" before "),
-            Piece::Placed(step.to),
-            Piece::Words(b": "),
-        ],
-    )?;
-    append_why(text, clients, step)?;
-    text.extend_from_slice(b"\n")?;
-    Ok(())
-}
-
-/// Appends the reason of a step.
-pub(crate) fn append_why(text: &mut Vec<u8>, clients: &Clients, step: &Step) -> Result<(), NoMemory>
-    ensures { OnOk result (text.new.items ≡ text.old.items ++ why_text clients.now step.now.from step.now.to step.now.why) }
-{
-    match step.why {
-        Why::Observed(reason) => append_reason(text, clients, step, &reason),
-        Why::RealTime => append_ended_before(text, clients, step),
-    }
-}
-
-/// Appends that the first transaction of the step ended before the second began.
-fn append_ended_before(text: &mut Vec<u8>, clients: &Clients, step: &Step) -> Result<(), NoMemory>
-    ensures { OnOk result (text.new.items ≡ text.old.items ++ why_text clients.now step.now.from step.now.to RealTime) }
-{
-    append_pieces(
-        text,
-        clients,
-        &[
-            Piece::Transaction(step.from),
-            Piece::Words(b" ended before "),
-            Piece::Transaction(step.to),
-            Piece::Words(b" began"),
-        ],
+        b"  # before #: #\n",
+        &[Part::Placed(clients, from), Part::Placed(clients, to), why],
     )
 }

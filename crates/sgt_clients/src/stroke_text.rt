@@ -2,10 +2,11 @@
 
 use crate::clients::Clients;
 use crate::evidence::{Spoken, operation_at};
-use crate::piece::{Piece, append_pieces};
+use crate::piece::Piece;
 use crate::scene::Stroke;
 use sgt_appends::Status;
 use sgt_classes::Action;
+use sgt_format::append_filled;
 use sgt_model::NoMemory;
 use sgt_notation::History;
 use std::alloc::Global;
@@ -66,17 +67,16 @@ fn action_of(clients: &Clients, stroke: &Stroke, item: u32) -> Option<Action> {
 fn label_of(alloc: Global, clients: &Clients, stroke: &Stroke) -> Result<Vec<u8>, NoMemory> {
     let mut label = Vec::new(alloc);
     match operation_at(clients, stroke.transaction, stroke.position) {
-        Some(sgt_appends::Operation::Append { key, value }) => append_pieces(
+        Some(sgt_appends::Operation::Append { key, value }) => append_filled(
             &mut label,
-            clients,
-            &[Piece::Key(*key), Piece::Words(b": +"), Piece::Value(*value)],
+            b"#: +#",
+            &[Piece::Key(clients, *key), Piece::Value(*value)],
         )?,
-        Some(sgt_appends::Operation::Read { key, values }) => append_pieces(
+        Some(sgt_appends::Operation::Read { key, values }) => append_filled(
             &mut label,
-            clients,
+            b"#: #",
             &[
-                Piece::Key(*key),
-                Piece::Words(b": "),
+                Piece::Key(clients, *key),
                 Piece::Values(values.as_slice(), Spoken::of_one(None)),
             ],
         )?,

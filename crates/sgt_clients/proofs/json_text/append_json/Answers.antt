@@ -4,7 +4,7 @@ use Rattle.sgt_clients.specs.AnomalyText.{anomalies_member}
 use Rattle.sgt_clients.specs.JsonText.{head_text}
 use Rattle.sgt_clients.specs.LevelJson.{levels_members}
 use Rattle.sgt_clients.specs.OrderText.{orders_members}
-use Rattle.sgt_clients.proofs.Texts.{grow}
+use Rattle.sgt_check.proofs.Pieces.{grow}
 use Rattle.sgt_clients.proofs.json_text.append_json.Goals as goal
 
 pub returns : goal.returns

@@ -2,7 +2,7 @@ use Rattle.std.proofs.Common.{◌++◌, ◌∙◌, ap}
 use Rattle.std.specs.Prelude.{codes}
 use Rattle.sgt_clients.specs.Levels.{strongest_of}
 use Rattle.sgt_clients.specs.LevelJson.{strongest_member, level_objects}
-use Rattle.sgt_clients.proofs.Texts.{grow}
+use Rattle.sgt_check.proofs.Pieces.{grow}
 use Rattle.sgt_clients.proofs.level_json.append_levels.Goals as goal
 
 pub returns : goal.returns

@@ -2,7 +2,7 @@ use Rattle.std.proofs.Common.{◌++◌, ◌∙◌, ap}
 use Rattle.std.specs.Prelude.{codes}
 use Rattle.sgt_clients.specs.Levels.{answer_of}
 use Rattle.sgt_clients.specs.LevelJson.{holds_text, level_members}
-use Rattle.sgt_clients.proofs.Texts.{grow}
+use Rattle.sgt_check.proofs.Pieces.{grow}
 use Rattle.sgt_clients.proofs.level_json.append_object.Goals as goal
 
 pub returns : goal.returns

@@ -1,5 +1,5 @@
 use Rattle.sgt_clients.proofs.Stored.{on_ok}
-use Rattle.sgt_clients.proofs.Texts.{grow}
+use Rattle.sgt_check.proofs.Pieces.{grow}
 use Rattle.sgt_clients.proofs.level_json.append_objects.Goals as goal
 
 pub returns : goal.returns

@@ -2,7 +2,7 @@ use Rattle.std.proofs.Common.{◌++◌, ◌∙◌, ap}
 use Rattle.sgt_clients.specs.Levels.{strongest_of}
 use Rattle.sgt_clients.specs.LevelText.{strongest_text, next_text}
 use Rattle.sgt_clients.proofs.Stored.{on_ok}
-use Rattle.sgt_clients.proofs.Texts.{grow}
+use Rattle.sgt_check.proofs.Pieces.{grow}
 use Rattle.sgt_clients.proofs.level_text.append_levels.Goals as goal
 
 pub returns : goal.returns

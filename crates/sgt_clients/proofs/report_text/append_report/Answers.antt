@@ -4,7 +4,7 @@ use Rattle.sgt_clients.specs.LevelText.{levels_text}
 use Rattle.sgt_clients.specs.OrderText.{orders_text}
 use Rattle.sgt_clients.specs.ReportText.{verdict_text}
 use Rattle.sgt_clients.proofs.Stored.{on_ok}
-use Rattle.sgt_clients.proofs.Texts.{grow}
+use Rattle.sgt_check.proofs.Pieces.{grow}
 use Rattle.sgt_clients.proofs.report_text.append_report.Goals as goal
 
 pub returns : goal.returns

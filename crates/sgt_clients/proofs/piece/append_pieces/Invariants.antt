@@ -1,7 +1,0 @@
-use Rattle.std.proofs.Common.{◌≡◌, ◌++◌, take}
-use Rattle.std.specs.List.{flat_map}
-use Rattle.sgt_clients.specs.Pieces.{piece_text}
-use Rattle.sgt_clients.proofs.piece.append_pieces.Given as goal
-
-abbrev pub invariant-loop-piece : goal.invariant-loop-piece
-invariant-loop-piece l = l.text.items ≡ l.fn.text.items ++ flat_map (piece_text l.clients) (take l.piece-index l.pieces)
