@@ -48,58 +48,34 @@ by_two (Ok test) (Ok ys) (Ok ns) = refl
 -- the condition of these four items
 pub four_are : (items : List Value) (a : Value) → 4 ≤ length items → length items < 5 → a ≡ get_or items 1 a
     → if_row (items_view items) ≡ if_of_two (at 1 (condition (view a))) (branches (items_view items))
-four_are [] a least most is-a = absurd (omega arith)
-four_are (x ∷ []) a least most is-a = absurd (omega arith)
-four_are (x ∷ y ∷ []) a least most is-a = absurd (omega arith)
-four_are (x ∷ y ∷ z ∷ []) a least most is-a = absurd (omega arith)
 four_are (x ∷ y ∷ z ∷ v ∷ []) a least most is-a =
     rw is-a (by_two (at 1 (condition (view y))) (at 2 (block (view z))) (at 3 (block (view v))))
-four_are (x ∷ y ∷ z ∷ v ∷ u ∷ items) a least most is-a = absurd (omega arith)
+four_are _ a least most is-a = absurd (omega arith)
 
 -- and their branches
 pub branches_are : (items : List Value) (b c : Value) → 4 ≤ length items → length items < 5 → b ≡ get_or items 2 b → c ≡ get_or items 3 c
     → branches (items_view items) ≡ two (λ ys ns. (ys, ns)) (at 2 (block (view b))) (at 3 (block (view c)))
-branches_are [] b c least most is-b is-c = absurd (omega arith)
-branches_are (x ∷ []) b c least most is-b is-c = absurd (omega arith)
-branches_are (x ∷ y ∷ []) b c least most is-b is-c = absurd (omega arith)
-branches_are (x ∷ y ∷ z ∷ []) b c least most is-b is-c = absurd (omega arith)
 branches_are (x ∷ y ∷ z ∷ v ∷ []) b c least most is-b is-c = rw (is-b, is-c) refl
-branches_are (x ∷ y ∷ z ∷ v ∷ u ∷ items) b c least most is-b is-c = absurd (omega arith)
+branches_are _ b c least most is-b is-c = absurd (omega arith)
 
 -- and the first of them is this word
 pub word_is : (items : List Value) (w : Value) → 4 ≤ length items → length items < 5 → w ≡ get_or items 0 w
     → is_if (items_view items) ≡ is_word (as_str (view w)) (codes "if")
-word_is [] w least most is-w = absurd (omega arith)
-word_is (x ∷ []) w least most is-w = absurd (omega arith)
-word_is (x ∷ y ∷ []) w least most is-w = absurd (omega arith)
-word_is (x ∷ y ∷ z ∷ []) w least most is-w = absurd (omega arith)
 word_is (x ∷ y ∷ z ∷ v ∷ []) w least most is-w = rw is-w refl
-word_is (x ∷ y ∷ z ∷ v ∷ u ∷ items) w least most is-w = absurd (omega arith)
+word_is _ w least most is-w = absurd (omega arith)
 
 -- a row of fewer or more
 pub not_four : (items : List Value) → length items < 4 ⊎ 5 ≤ length items → false ≡ is_if (items_view items)
-not_four [] other = refl
-not_four (a ∷ []) other = refl
-not_four (a ∷ b ∷ []) other = refl
-not_four (a ∷ b ∷ c ∷ []) other = refl
 not_four (a ∷ b ∷ c ∷ d ∷ []) other = absurd (omega arith)
-not_four (a ∷ b ∷ c ∷ d ∷ e ∷ rest) other = refl
+not_four _ other = refl
 
 pub no_if_row : (items : List Value) → length items < 4 ⊎ 5 ≤ length items → if_row (items_view items) ≡ here
-no_if_row [] other = refl
-no_if_row (a ∷ []) other = refl
-no_if_row (a ∷ b ∷ []) other = refl
-no_if_row (a ∷ b ∷ c ∷ []) other = refl
 no_if_row (a ∷ b ∷ c ∷ d ∷ []) other = absurd (omega arith)
-no_if_row (a ∷ b ∷ c ∷ d ∷ e ∷ rest) other = refl
+no_if_row _ other = refl
 
 pub no_branches : (items : List Value) → length items < 4 ⊎ 5 ≤ length items → branches (items_view items) ≡ here
-no_branches [] other = refl
-no_branches (a ∷ []) other = refl
-no_branches (a ∷ b ∷ []) other = refl
-no_branches (a ∷ b ∷ c ∷ []) other = refl
 no_branches (a ∷ b ∷ c ∷ d ∷ []) other = absurd (omega arith)
-no_branches (a ∷ b ∷ c ∷ d ∷ e ∷ rest) other = refl
+no_branches _ other = refl
 
 -- the statement of an If's row
 pub if_made : (reading : Reading (Block → Block)) (a : Reading CondText) (found : Reading (Block × Block)) (test : Cond)

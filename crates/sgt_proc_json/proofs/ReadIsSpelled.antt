@@ -17,12 +17,8 @@ chosen false first other x is = inr is
 
 -- the word of a row
 the_word : (d : Data) (word : List ℕ) → is_word (as_str d) word ≡ true → d ≡ string word
-the_word null word is = absurd (cc)
-the_word (boolean b) word is = absurd (cc)
-the_word (number n) word is = absurd (cc)
 the_word (string s) word is = ap string ((bytes_eq-Decides s word).0 is)
-the_word (array ds) word is = absurd (cc)
-the_word (object ms) word is = absurd (cc)
+the_word _ word is = absurd (cc)
 
 at_read : {A : Type 0} (i : ℕ) (r : Reading A) (a : A) → at i r ≡ Ok a → r ≡ Ok a
 at_read i (Ok x) a is = is
@@ -104,8 +100,6 @@ term_read (boolean b) e is = num_read (boolean b) e is
 term_read (number n) e is = num_read (number n) e is
 term_read (string s) e is = num_read (string s) e is
 term_read (object ms) e is = num_read (object ms) e is
-term_read (array no_items) e is = absurd (cc)
-term_read (array (item w no_items)) e is = absurd (cc)
 term_read (array (item w (item n no_items))) e is = name_read w n e is
 term_read (array (item w (item a (item b no_items)))) e is =
     let left = term_read a in
@@ -125,7 +119,7 @@ term_read (array (item w (item a (item b no_items)))) e is =
             ]
       ]
     ]
-term_read (array (item w (item a (item b (item c rest))))) e is = absurd (cc)
+term_read _ e is = absurd (cc)
 
 -- two expressions that are compared
 compared_read : (f : ExprText → ExprText → CondText) (word : List ℕ) (w a b : Data) (e : CondText)
@@ -144,14 +138,6 @@ compared_read f word w a b e spells says is =
 
 -- a condition
 test_read : (d : Data) (e : CondText) → condition d ≡ Ok e → SpellsTest e d
-test_read null e is = absurd (cc)
-test_read (boolean b) e is = absurd (cc)
-test_read (number n) e is = absurd (cc)
-test_read (string s) e is = absurd (cc)
-test_read (object ms) e is = absurd (cc)
-test_read (array no_items) e is = absurd (cc)
-test_read (array (item w no_items)) e is = absurd (cc)
-test_read (array (item w (item n no_items))) e is = absurd (cc)
 test_read (array (item w (item a (item b no_items)))) e is =
     elim (chosen (is_word (as_str w) (codes "less")) (two less (at 1 (expression a)) (at 2 (expression b))) _ e is) [
       | inl h ↦ compared_read less (codes "less") w a b e (λ x y. refl) (the_word w (codes "less") h.0) h.1
@@ -165,7 +151,7 @@ test_read (array (item w (item a (item b no_items)))) e is =
                 ]
           ]
     ]
-test_read (array (item w (item a (item b (item c rest))))) e is = absurd (cc)
+test_read _ e is = absurd (cc)
 
 -- what a statement's tree spells, in front of others
 abbrev Front : (Block → Block) → Data → Type 0
@@ -312,15 +298,8 @@ mutual
 
 -- a procedure
 pub spelled_read : (p : ProcedureText) (d : Data) → reading d ≡ Ok p → Spells p d
-spelled_read p null is = absurd (cc)
-spelled_read p (boolean b) is = absurd (cc)
-spelled_read p (number n) is = absurd (cc)
-spelled_read p (string s) is = absurd (cc)
-spelled_read p (object ms) is = absurd (cc)
-spelled_read p (array no_items) is = absurd (cc)
-spelled_read p (array (item a no_items)) is = absurd (cc)
 spelled_read p (array (item a (item b no_items))) is =
     let o = two_read (λ args body. record { args = args; body = body }) (at 0 (byte a)) (at 1 (block b)) p is in
     subst (λ x. Spells x (array (item a (item b no_items)))) o.4
     (byte_read 0 o.0 a o.2, (block_read b o.1 (at_read 1 (block b) o.1 o.3), tt))
-spelled_read p (array (item a (item b (item c rest)))) is = absurd (cc)
+spelled_read p _ is = absurd (cc)

@@ -1,7 +1,7 @@
 -- A tree that spells a procedure reads as it.
 use Rattle.std.proofs.Common.{◌≡◌, refl, ap, ◌∙◌, ℕ, ◌+◌, List, [], ◌∷◌, Ok}
 use Rattle.std.specs.Prelude.{codes}
-use Rattle.serde_json.specs.Data.{Data, null, boolean, number, array, string, object, Items, no_items, item}
+use Rattle.serde_json.specs.Data.{Data, number, array, string, Items, no_items, item}
 use Rattle.sgt_model.specs.Syntax.{ExprText, num, arg, reg, sum, diff, product, quotient, CondText, less, at_most, equal, Block, empty, look, find, put, remove, save, ask, choose, answer, ProcedureText}
 use Rattle.sgt_proc_json.specs.Spelling.{Shape, Each, WordAnd, Byte, Short, SpellsTerm, SpellsTest, Listed, SpellsBlock, Spells}
 use Rattle.sgt_proc_json.specs.Readings.{at, one, or_here, byte, short, expression, condition, statement, block, statements, reading}
@@ -15,18 +15,8 @@ read_short n i d is = ap (λ o. at i (or_here o)) is
 -- a row is a list that starts with its word
 row_is : (word : List ℕ) (shapes : List Shape) (d : Data) → WordAnd word shapes d
     → (items : Items) × (d ≡ array (item (string word) items)) × Each shapes items
-row_is word shapes null is = absurd is
-row_is word shapes (boolean b) is = absurd is
-row_is word shapes (number n) is = absurd is
-row_is word shapes (string s) is = absurd is
-row_is word shapes (object ms) is = absurd is
-row_is word shapes (array no_items) is = absurd is
-row_is word shapes (array (item null items)) is = absurd is
-row_is word shapes (array (item (boolean b) items)) is = absurd is
-row_is word shapes (array (item (number n) items)) is = absurd is
 row_is word shapes (array (item (string w) items)) is = (items, ap (λ v. array (item (string v) items)) is.0, is.1)
-row_is word shapes (array (item (array ds) items)) is = absurd is
-row_is word shapes (array (item (object ms) items)) is = absurd is
+row_is word shapes _ is = absurd is
 
 -- as many items as shapes
 each_is : (shape : Shape) (shapes : List Shape) (items : Items) → Each (shape ∷ shapes) items
@@ -40,12 +30,8 @@ none_is (item d rest) is = absurd is
 
 -- a list is its items
 listed_is : (so : Items → Type 0) (d : Data) → Listed so d → (items : Items) × (d ≡ array items) × so items
-listed_is so null is = absurd is
-listed_is so (boolean b) is = absurd is
-listed_is so (number n) is = absurd is
-listed_is so (string s) is = absurd is
-listed_is so (object ms) is = absurd is
 listed_is so (array items) is = (items, refl, is)
+listed_is so _ is = absurd is
 
 -- a row of one item
 one_is : (word : List ℕ) (s : Shape) (d : Data) → WordAnd word (s ∷ []) d
@@ -112,12 +98,7 @@ two_read word a b d read_a read_b is =
 
 -- an expression
 read_term : (e : ExprText) (d : Data) → SpellsTerm e d → expression d ≡ Ok e
-read_term (num z) null is = absurd (cc)
-read_term (num z) (boolean b) is = absurd (cc)
 read_term (num z) (number n) is = ap (λ o. one num (or_here o)) is
-read_term (num z) (string s) is = absurd (cc)
-read_term (num z) (array items) is = absurd (cc)
-read_term (num z) (object ms) is = absurd (cc)
 read_term (arg n) d is =
     let r = one_is (codes "arg") (Byte n) d is in
     rw r.1 (ap (one arg) (read_byte n 1 r.0 r.2))
@@ -132,6 +113,7 @@ read_term (product a b) d is =
     let r = two_read (codes "product") a b d (read_term a) (read_term b) is in rw r.2 (rw (r.3, r.4) refl)
 read_term (quotient a b) d is =
     let r = two_read (codes "quotient") a b d (read_term a) (read_term b) is in rw r.2 (rw (r.3, r.4) refl)
+read_term (num z) _ is = absurd (cc)
 
 -- a condition
 read_test : (t : CondText) (d : Data) → SpellsTest t d → condition d ≡ Ok t
@@ -155,48 +137,40 @@ read_first n d rest f b is others = rw (is, others) refl
 -- statements
 read_block : (b : Block) (n : ℕ) (items : Items) → SpellsBlock b items → statements n items ≡ Ok b
 read_block empty n no_items is = refl
-read_block empty n (item d rest) is = absurd is
-read_block (look to table id absent b) n no_items is = absurd is
 read_block (look to table id absent b) n (item d rest) is =
     let r = four_are (codes "look") (Byte to) (Byte table) (SpellsTerm id) (Short absent) d is.0 in
     read_first n d rest (λ b. look to table id absent b) b
     (rw r.4 (rw (read_byte to 1 r.0 r.5, read_byte table 2 r.1 r.6, read_term id r.2 r.7, read_short absent 4 r.3 r.8) refl))
     (read_block b (n + 1) rest is.1)
-read_block (find to table id absent b) n no_items is = absurd is
 read_block (find to table id absent b) n (item d rest) is =
     let r = four_are (codes "find") (Byte to) (Byte table) (SpellsTerm id) (SpellsTerm absent) d is.0 in
     read_first n d rest (λ b. find to table id absent b) b
     (rw r.4 (rw (read_byte to 1 r.0 r.5, read_byte table 2 r.1 r.6, read_term id r.2 r.7, read_term absent r.3 r.8) refl))
     (read_block b (n + 1) rest is.1)
-read_block (put table id value b) n no_items is = absurd is
 read_block (put table id value b) n (item d rest) is =
     let r = three_are (codes "put") (Byte table) (SpellsTerm id) (SpellsTerm value) d is.0 in
     read_first n d rest (λ b. put table id value b) b (rw r.3
     (rw (read_byte table 1 r.0 r.4, read_term id r.1 r.5, read_term value r.2 r.6) refl)) (read_block b (n + 1) rest is.1)
-read_block (remove table id b) n no_items is = absurd is
 read_block (remove table id b) n (item d rest) is =
     let r = two_are (codes "remove") (Byte table) (SpellsTerm id) d is.0 in
     read_first n d rest (λ b. remove table id b) b (rw r.2 (rw (read_byte table 1 r.0 r.3, read_term id r.1 r.4) refl))
     (read_block b (n + 1) rest is.1)
-read_block (save to value b) n no_items is = absurd is
 read_block (save to value b) n (item d rest) is =
     let r = two_are (codes "let") (Byte to) (SpellsTerm value) d is.0 in
     read_first n d rest (λ b. save to value b) b (rw r.2 (rw (read_byte to 1 r.0 r.3, read_term value r.1 r.4) refl))
     (read_block b (n + 1) rest is.1)
-read_block (ask code b) n no_items is = absurd is
 read_block (ask code b) n (item d rest) is =
     let r = one_is (codes "ask") (Short code) d is.0 in
     read_first n d rest (λ b. ask code b) b (rw r.1 (rw (read_short code 1 r.0 r.2) refl)) (read_block b (n + 1) rest is.1)
-read_block (choose test ys ns b) n no_items is = absurd is
 read_block (choose test ys ns b) n (item d rest) is =
     let r = three_are (codes "if") (SpellsTest test) (Listed (SpellsBlock ys)) (Listed (SpellsBlock ns)) d is.0 in
     read_first n d rest (λ b. choose test ys ns b) b (rw r.3
     (rw (read_test test r.0 r.4, read_list ys r.1 (read_block ys 0) r.5, read_list ns r.2 (read_block ns 0) r.6) refl))
     (read_block b (n + 1) rest is.1)
-read_block (answer value b) n no_items is = absurd is
 read_block (answer value b) n (item d rest) is =
     let r = one_is (codes "answer") (SpellsTerm value) d is.0 in
     read_first n d rest (λ b. answer value b) b (rw r.1 (rw (read_term value r.0 r.2) refl)) (read_block b (n + 1) rest is.1)
+read_block _ n _ is = absurd is
 
 -- a procedure
 pub read_spelled : (p : ProcedureText) (d : Data) → Spells p d → reading d ≡ Ok p

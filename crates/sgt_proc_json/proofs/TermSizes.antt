@@ -1,13 +1,11 @@
 -- How large an expression is.
 use Rattle.std.specs.Prelude.{ℕ, ◌+◌}
-use Rattle.sgt_model.specs.Syntax.{ExprText, num, arg, reg, sum, diff, product, quotient}
+use Rattle.sgt_model.specs.Syntax.{ExprText, sum, diff, product, quotient}
 
 -- how many parts it has
 abbrev pub term_size : ExprText → ℕ
-term_size (num z) = 1
-term_size (arg n) = 1
-term_size (reg n) = 1
 term_size (sum a b) = term_size a + term_size b + 2
 term_size (diff a b) = term_size a + term_size b + 2
 term_size (product a b) = term_size a + term_size b + 2
 term_size (quotient a b) = term_size a + term_size b + 2
+term_size _ = 1
