@@ -55,11 +55,9 @@ named_once : (event : Event) → AreOnce (named event)
 named_once event n m t first second = (named_is event n t first).0 ∙ sym (named_is event m t second).0
 
 stepping_once : (event : Event) → AreOnce (stepping event)
-stepping_once (Start p args) n m t first second = absurd (cc)
 stepping_once (Step u) n m t first second = (alone u n t first).0 ∙ sym (alone u m t second).0
 stepping_once (Access u d) n m t first second = (alone u n t first).0 ∙ sym (alone u m t second).0
-stepping_once (Commit u) n m t first second = absurd (cc)
-stepping_once (Quit u) n m t first second = absurd (cc)
+stepping_once _ n m t first second = absurd (cc)
 
 -- the event's transaction is not among those aborted in cascade with it
 undone_once : (past : List Entry) (event : Event) (fell : List ℕ) → Falls past (subject event) fell → AreOnce (named event ++ fell)

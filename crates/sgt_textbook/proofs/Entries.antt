@@ -104,21 +104,17 @@ named_at (Quit u) t h = ap (λ v. Some v) (eqb-true u t h)
 
 stepping_is : (event : Event) (k : Key) (kind : Kind) (v : Option ℤ) (j t : ℕ) → slice_get (stepping event) j ≡ Some t
     → (j ≡ 0) × (access_at event k kind v ≡ Some (record { by = t; key = k; kind = kind; value = v }))
-stepping_is (Start p args) k kind v j t at = absurd (cc)
 stepping_is (Step u) k kind v j t at = let a = alone u j t at in
     (a.0, ap (λ w. Some (record { by = w; key = k; kind = kind; value = v })) a.1)
 stepping_is (events.Access u d) k kind v j t at = let a = alone u j t at in
     (a.0, ap (λ w. Some (record { by = w; key = k; kind = kind; value = v })) a.1)
-stepping_is (Commit u) k kind v j t at = absurd (cc)
-stepping_is (Quit u) k kind v j t at = absurd (cc)
+stepping_is _ k kind v j t at = absurd (cc)
 
 stepping_at : (number : Key → ℕ) (event : Event) (k : Key) (kind : Kind) (v : Option ℤ) (a : Access) → access_at event k kind v ≡ Some a
     → slice_get (each_does (action_on kind (number k)) (stepping event)) 0 ≡ Some (access_as number a)
-stepping_at number (Start p args) k kind v a is = absurd (cc)
 stepping_at number (Step u) k kind v a is = ap (λ b. Some (access_as number b)) (some_is _ a is)
 stepping_at number (events.Access u d) k kind v a is = ap (λ b. Some (access_as number b)) (some_is _ a is)
-stepping_at number (Commit u) k kind v a is = absurd (cc)
-stepping_at number (Quit u) k kind v a is = absurd (cc)
+stepping_at number _ k kind v a is = absurd (cc)
 
 -- of those aborted in cascade
 
@@ -255,13 +251,4 @@ reports number event (reply.Aborted why fell) = undoes number event _ why fell
 reports number event (reply.Refused code fell) = undoes number event _ (cause.Asked code) fell
     (record { ends = λ _. refl; no_access = refl; no_commit = refl })
     (λ j t a at. each_is action.Abort (named event ++ fell) j t a at) (λ j t at. each_at action.Abort (named event ++ fell) j t at)
-reports number event (reply.Started u) = idle number event _ refl refl (λ _. refl) refl
-reports number event reply.NoProcedure = idle number event _ refl refl (λ _. refl) refl
-reports number event reply.BadArgs = idle number event _ refl refl (λ _. refl) refl
-reports number event reply.Spent = idle number event _ refl refl (λ _. refl) refl
-reports number event reply.Full = idle number event _ refl refl (λ _. refl) refl
-reports number event reply.Unknown = idle number event _ refl refl (λ _. refl) refl
-reports number event (reply.Over ended) = idle number event _ refl refl (λ _. refl) refl
-reports number event reply.Ended = idle number event _ refl refl (λ _. refl) refl
-reports number event reply.NotEnded = idle number event _ refl refl (λ _. refl) refl
-reports number event (reply.Waits u) = idle number event _ refl refl (λ _. refl) refl
+reports number event _ = idle number event _ refl refl (λ _. refl) refl
