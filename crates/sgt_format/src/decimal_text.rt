@@ -123,7 +123,7 @@ pub(crate) fn write_key(key: &Key, text: &mut [u8], end: usize) -> usize
 {
     let start = write_signed(key.id(), text, end);
     let start = write_byte(b'/', text, start);
-    write_digits(u64::from(key.table()), text, start)
+    write_byte(b'0' + key.table(), text, start)
 }
 
 /// Writes a number in decimal so that it ends at `end`, and returns where it starts.
