@@ -1,5 +1,5 @@
 //! What is known of the accesses by key.
-ghost use Rattle.std.specs.Prelude.{◌≡◌, ◌<◌, List, [], ◌∷◌, ◌++◌, IsSome, OnOk};
+ghost use Rattle.std.specs.Prelude.{◌≡◌, ◌<◌, ◌↔◌, List, [], ◌∷◌, ◌++◌, None, IsSome, IsTrue, OnOk};
 ghost use Rattle.std.specs.Vec.{vec_len, vec_capacity};
 ghost use Rattle.sgt_model.specs.AccessList.{ListedAccess, forgotten};
 ghost use Rattle.sgt_access.specs.Masks.{StandsFor, Covers, Knows, Holds, IsSaid};
@@ -52,43 +52,51 @@ impl Known {
         }
     }
 
-    /// Adds an access. The others are these, if all are of one transaction.
+    /// Adds an access. The others are these, if all are of one transaction. Returns whether all still are.
     #[inline(always)]
-    pub fn add(&mut self, access: Access, others: &[Access])
+    pub fn add(&mut self, access: Access, others: &[Access]) -> bool
         ensures known { (list : List ListedAccess) → Knows self.old.only self.old.masks list
             → (IsSome self.old.only → StandsFor list others.now)
             → Knows self.new.only self.new.masks (list ++ access ∷ []) }
         ensures alone { IsSome self.new.only → IsSome self.old.only }
+        ensures result { IsTrue result ↔ IsSome self.new.only }
     {
         match self.only {
             Some(only) => {
-                if only != access.by {
-                    self.add_of_another(access, others);
+                if only == access.by {
+                    return true;
                 }
+                self.add_of_another(access, others)
             }
-            None => self.masks.add(access),
+            None => {
+                self.masks.add(access);
+                false
+            }
         }
     }
 
     // The same, if the masks have none of the others and the access is of another transaction. While one transaction is live, there
     // are no others.
     #[inline(always)]
-    fn add_of_another(&mut self, access: Access, others: &[Access])
-        ensures { (list : List ListedAccess) → Covers self.old.masks [] → StandsFor list others.now
+    fn add_of_another(&mut self, access: Access, others: &[Access]) -> bool
+        ensures known { (list : List ListedAccess) → Covers self.old.masks [] → StandsFor list others.now
             → Knows self.new.only self.new.masks (list ++ access ∷ []) }
+        ensures result { IsTrue result ↔ IsSome self.new.only }
     {
         if others.is_empty() {
             self.only = Some(access.by);
-            return;
+            return true;
         }
-        self.add_with_others(access, others)
+        self.add_with_others(access, others);
+        false
     }
 
     // The same, with masks of all accesses.
     #[inline(never)]
     fn add_with_others(&mut self, access: Access, others: &[Access])
-        ensures { (list : List ListedAccess) → Covers self.old.masks [] → StandsFor list others.now
+        ensures known { (list : List ListedAccess) → Covers self.old.masks [] → StandsFor list others.now
             → Knows self.new.only self.new.masks (list ++ access ∷ []) }
+        ensures several { self.new.only ≡ None }
     {
         add_all(&mut self.masks, others);
         self.masks.add(access);
@@ -147,15 +155,15 @@ fn begin(lists: &mut NumberLists, known: &mut Known) -> Result<(), NoMemory>
     lists.make()
 }
 
-/// Stores an access in the list of its transaction. If that is full, or while all accesses are of one transaction, it is stored
+/// Stores an access in the list of its transaction. If that is full, or if all accesses are of one transaction, it is stored
 /// with the others. It allocates nothing.
 #[inline(always)]
-pub fn store(accesses: &mut Vec<Access>, lists: &mut NumberLists, only: Option<Tid>, access: Access)
+pub fn store(accesses: &mut Vec<Access>, lists: &mut NumberLists, is_alone: bool, access: Access)
     requires { vec_len accesses.old < vec_capacity accesses.old }
     ensures stands { StandsFor ((accesses.old.items ++ lists.old) ++ access ∷ []) (accesses.new.items ++ lists.new) }
-    ensures alone { IsSome only → lists.new ≡ lists.old }
+    ensures alone { IsTrue is_alone → lists.new ≡ lists.old }
 {
-    if only.is_some() {
+    if is_alone {
         accesses.push_reserved(access);
         return;
     }

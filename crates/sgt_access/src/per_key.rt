@@ -67,8 +67,8 @@ impl Accesses for PerKey {
     #[inline(always)]
     fn note(&mut self, t: Tid, key: Key, kind: Kind) {
         let access = Access { by: t, key, kind };
-        self.known.add(access, self.accesses.as_slice());
-        store(&mut self.accesses, &mut self.lists, self.known.only, access);
+        let is_alone = self.known.add(access, self.accesses.as_slice());
+        store(&mut self.accesses, &mut self.lists, is_alone, access);
         self.whole.note(access);
     }
 

@@ -3,8 +3,8 @@ use Rattle.sgt_access.specs.Masks.{StandsFor}
 use Rattle.sgt_access.proofs.Held.{stored_first, stored_second}
 use Rattle.sgt_access.proofs.known.store.Goals as goal
 
-pub returns-then-is_some-clause-stands : goal.returns-then-is_some-clause-stands
-returns-then-is_some-clause-stands c =
+pub returns-then-is_alone-clause-stands : goal.returns-then-is_alone-clause-stands
+returns-then-is_alone-clause-stands c =
     rw c.push_reserved.ensures.items (stored_first c.args.accesses.now.items c.args.lists.now c.args.access)
 
 pub returns-then-add-clause-stands : goal.returns-then-add-clause-stands

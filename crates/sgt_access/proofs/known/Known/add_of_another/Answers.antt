@@ -4,8 +4,8 @@ use Rattle.sgt_access.specs.Masks.{Knows}
 use Rattle.sgt_access.proofs.Held.{first_noted}
 use Rattle.sgt_access.proofs.known.Known.add_of_another.Goals as goal
 
-pub returns-then-is_empty : goal.returns-then-is_empty
-returns-then-is_empty c list start stands =
+pub returns-then-is_empty-clause-known : goal.returns-then-is_empty-clause-known
+returns-then-is_empty-clause-known c list start stands =
     let none : length c.args.others.now ≡ 0 = search rules in
     subst (λ t. Knows (Some t) c.args.self.now.masks (list ++ c.args.access ∷ [])) (sym (ap (λ (a : ListedAccess). a.by) c.access.view_is))
     (first_noted c.args.self.now.masks list c.args.others.now c.args.access none stands start)
