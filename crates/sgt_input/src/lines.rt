@@ -72,15 +72,15 @@ fn whole_length(bytes: &[u8], from: usize, within: usize) -> usize
 /// Splits the bytes of a source into lines, within the limits. Its buffer has a fixed size, however long the input is.
 #[derive(Drop)]
 pub struct Lines {
+    /// How many lines were returned. It stands apart from the other counts: beside one of them it would be changed in vectors.
+    number: u64,
     buffer: Buffer,
     /// How many of the bytes held are whole lines within the limit, with their newlines.
     whole: usize,
-    /// How many of the bytes not returned are within the limit.
-    within: usize,
-    /// How many lines were returned.
-    number: u64,
     /// Whether the source has ended.
     ended: bool,
+    /// How many of the bytes not returned are within the limit.
+    within: usize,
 }
 
 impl Model for Lines {
