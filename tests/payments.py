@@ -506,13 +506,18 @@ def tokens():
     with scratch() as folder:
         file, own = folder / "tokens", {hashlib.sha256(token.encode()).hexdigest(): right for token, right in rights.items()}
         file.write_text(json.dumps(own))
-        with Server("serve", folder / "j", "--accounts", 5, "--tokens", file) as server:
+        shutil.copytree(PAYMENTS / "procedures", folder / "procedures")
+        (folder / "procedures" / "few.json").write_text('{"request": ["few"], "reply": ["one"], "procedure": [1, [["answer", ["arg", 0]]]]}')
+        words = ("serve", folder / "j", "--accounts", 5, "--tokens", file, "--procedures", folder / "procedures")
+        with Server(*words) as server:
             no, yes, gift = {"error": "no right to this"}, {"token": True}, pay(1, 3, 1, 5)
             same("without a token", [no, no], server.ask({"balance": 1}, gift))
             same("wrong tokens", [no, no, no], server.ask({"token": "shops"}, b'{"token": "\\ud800"}', {"balance": 1}))
             wanted = [yes, {"id": 2, "paid": True, "from_has": 99_995, "to_has": 100_005}, no, {"balance": 3, "has": 100_005}, no, no, [no, {"balance": 0, "has": 100_000}]]
             same("a shop", wanted, server.ask({"token": "shop"}, pay(2, 2, 3, 5), gift, {"balance": 3}, {"balance": 4}, {"capture": 2, "to": 3}, [gift, {"balance": 0}]))
             same("a clerk", [yes, {"balance": 3, "has": 100_005}, no, no], server.ask({"token": "clerk"}, {"balance": 3}, {"balance": 1}, gift))
+            same("what says nothing of rights", [yes, no], server.ask({"token": "shop"}, {"few": 5}))
+            same("the same for an administrator", {"few": 5, "one": 5}, ask(folder / "j" / "admin", "few", 5))
             same("a token that is lost", [yes, no, no], server.ask({"token": "shop"}, {"token": "x"}, {"balance": 1}))
             same("an administrator", {"balance": 4, "has": 100_000}, ask(folder / "j" / "admin", "balance", 4))
         for bad in ("[]", "{", '{"x": null}', '{"x": {"pay": [[1]]}}', '{"x": {"pay": [["a", "b"]]}}', '{"x": {"pay": [["1", "2"]]}}', '{"x": {"pay": ["12"]}}'):
@@ -521,7 +526,7 @@ def tokens():
             if status != 1 or "no file of tokens" not in error:
                 raise Differs(f"a start with {bad} for tokens: {status} {error}")
         file.write_text("{}")
-        with Server("serve", folder / "j", "--tokens", file) as server:
+        with Server(*words) as server:
             same("with no tokens at all", [no], server.ask({"balance": 1}))
 
 
@@ -927,16 +932,19 @@ def full_disk():
 
 
 def failing_fsync():
-    """An fsync that fails ends the server before it acknowledges, and it is not tried again."""
+    """An fsync that fails ends the server before it acknowledges, and it is not tried again. What no fsync has kept is gone then."""
     load = Load(random.Random(8))
     with scratch() as folder:
         preload = preloaded(folder, "failing_fsync")
         words = ("serve", folder / "j", "--accounts", ACCOUNTS, "--cents", CENTS)
         for fails_after in (10, 40):
-            with Server(*words, env={**preload, "FSYNC_FAILS_AFTER": str(fails_after)}) as server:
+            notes = folder / f"synced{fails_after}"
+            with Server(*words, env={**preload, "FSYNC_FAILS_AFTER": str(fails_after), "NOTE_FSYNC": str(notes)}) as server:
                 error = ends_at_once(server, load)
             if "Input/output error" not in error:
                 raise Differs(f"it says {error}")
+            (newest,) = (folder / "j").glob("*.batches")
+            os.truncate(newest, synced(notes)[newest.name])
             load.judge(*recovered(folder / "j")[:2])
     return f"{len(load.acknowledged)} acknowledged"
 

@@ -21,8 +21,7 @@ create table if not exists stored (server text primary key, number bigint not nu
 LEAD = f"""insert into leader values (true, %(nonce)s, now() + interval '{LEASE} s') on conflict (only_row)
 do update set nonce = excluded.nonce, until = excluded.until where leader.until < now() or leader.nonce = excluded.nonce returning 1"""
 RENEW = f"update leader set until = now() + interval '{LEASE} s' where nonce = %(nonce)s returning 1"
-APPEND = """
-with ours as (select 1 from leader where nonce = %(nonce)s for share)
+APPEND = """with ours as (select 1 from leader where nonce = %(nonce)s for share)
 insert into batch select %(at)s, %(data)s from ours on conflict (number) do update set data = batch.data where batch.data = excluded.data returning 1"""
 
 

@@ -73,7 +73,8 @@ class Server:
             if words:
                 self.flush()  # so that they report of no call that may be lost
             reported = [self.words[word](value) if word in self.words else {"error": "no word of this server"} for it in words for word, value in it.items()]
-            self.add_group(self.entries or None, front, outcomes[at : (at := at + len(entries) * OUTCOME.size)] + marshal.dumps(([*map(json.dumps, reported)], age)))
+            own = outcomes[at : (at := at + len(entries) * OUTCOME.size)]
+            self.add_group(self.entries or None, front, own + marshal.dumps(([*map(json.dumps, reported)], age)))
 
     def add_group(self, entries: Optional[list[str]], front: Optional[socket.socket] = None, reply: bytes = b"") -> None:
         """Has this made safe next, and then replied."""
