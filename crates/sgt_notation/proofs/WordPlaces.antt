@@ -9,9 +9,7 @@ use Rattle.sgt_notation.specs.Words.{words, parts_words, is_break, is_space, is_
 none_holds : {A : Type 0} (x y z : Bool) (p q r s : A) → (x || (y || z)) ≡ false
     → (if x then p else if false || z then q else if y then r else s) ≡ s
 none_holds false false false p q r s h = refl
-none_holds false false true p q r s h = absurd (cc)
-none_holds false true z p q r s h = absurd (cc)
-none_holds true y z p q r s h = absurd (cc)
+none_holds _ _ _ p q r s h = absurd (cc)
 
 -- the words of bytes that start with one of a word
 in_word : (n b : ℕ) (bs : List ℕ) → parts_words b ≡ false → words false n (b ∷ bs) ≡ begin_word n b bs (words false n bs)

@@ -46,16 +46,7 @@ entry-spelled number items event (reply.Wrote k v) is = writes items (number k) 
 entry-spelled number items event (reply.Committed answers) is = commits items (named event)
 entry-spelled number items event (reply.Aborted why fell) is = aborts items (named event ++ fell)
 entry-spelled number items event (reply.Refused code fell) is = aborts items (named event ++ fell)
-entry-spelled number items event (reply.Started u) is = refl
-entry-spelled number items event reply.NoProcedure is = refl
-entry-spelled number items event reply.BadArgs is = refl
-entry-spelled number items event reply.Spent is = refl
-entry-spelled number items event reply.Full is = refl
-entry-spelled number items event reply.Unknown is = refl
-entry-spelled number items event (reply.Over ended) is = refl
-entry-spelled number items event reply.Ended is = refl
-entry-spelled number items event reply.NotEnded is = refl
-entry-spelled number items event (reply.Waits u) is = refl
+entry-spelled number items event _ is = refl
 
 pub spelled : TranscriptsSpellTextbooks
 spelled number items [] names = refl
