@@ -32,4 +32,4 @@ part_text (part.Fault c reader read fault) = fault_text c.now reader read fault.
 part_text (part.Partial c partial) = partial_text c.now partial.now
 part_text (part.Unseen c it) = unseen_text c.now it.now
 part_text (part.Why c t u why) = why_text c.now t u why
-part_text (part.Ground c t u ground) = ground_text c.now t u ground
+part_text (part.Ground c t u why) = ground_text c.now t u why
