@@ -407,8 +407,8 @@ def owing():
 
 
 def statements():
-    """The payments of each account, newest first, by pages; no refused one."""
-    draw, own = random.Random(14), {account: [] for account in range(1, 5)}
+    """The payments of each account, newest first, by pages; no refused one, and none that the account credited."""
+    draw, own, outside = random.Random(14), {account: [] for account in range(1, 5)}, []
     with scratch() as folder, Server("serve", folder / "j", "--accounts", 5) as server:
         for number in draw.sample(range(1, 10**15), 60):
             payer, payee = draw.sample(range(1, 5), 2)
@@ -416,6 +416,11 @@ def statements():
             if "paid" in reply:
                 own[payer].insert(0, number)
                 own[payee].insert(0, number)
+            else:
+                outside.append((payer, number))
+        credit = 10**15 - 1
+        same("a credit", True, server.ask({"credit": credit, "from": 1, "to": 4, "amount": 5})[0].get("credited"))
+        own[4].insert(0, credit)
         for account, wanted in own.items():
             came, before = [], 0
             while page := server.ask({"statement": account, "before": before})[0]["payments"]:
@@ -428,6 +433,8 @@ def statements():
             ({"statement": 0, "before": own[1][0]}, {"statement": 0, "refused": "there is no such payment of this account"}),
             ({"statement": 0, "before": 0}, {"statement": 0, "payments": []}),
         ]
+        for account, number in [*outside, (1, credit)]:
+            refused.append(({"statement": account, "before": number}, {"statement": account, "refused": "there is no such payment of this account"}))
         asked(server, refused)
     return f"of {[len(it) for it in own.values()]} payments"
 
