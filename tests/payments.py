@@ -18,6 +18,7 @@ import fcntl
 import hashlib
 import json
 import marshal
+import multiprocessing
 import os
 import pathlib
 import random
@@ -52,7 +53,6 @@ from front import AT_ONCE, FRONTS, OTHER_FILES, PART, Front  # noqa: E402
 from hundred_partitions import SHARES, Simulation, accounts_of, partition_of  # noqa: E402
 from journal import Fenced, Store, store, unseal  # noqa: E402
 from lines import LONGEST, Reader  # noqa: E402
-from link import receive, send  # noqa: E402
 from sgt import Kind, pack_calls, unpack_calls  # noqa: E402
 
 SECONDS = 600  # of a command, a reply or an end: what comes takes less on any machine
@@ -1334,7 +1334,7 @@ def vanished_clients():
 def front_alone():
     """What a front process does, in this process; the server's end of its connection; and where it listens."""
     procedures = load_procedures(PAYMENTS / "procedures")
-    own, server = socket.socketpair()
+    own, server = multiprocessing.Pipe()
     with socket.create_server(("127.0.0.1", 0)) as listener:
         front = Front([listener], own, Reader(procedures, None, False), 60, None)
         front.numbers = {name: number for number, name in enumerate(procedures)}
@@ -1357,10 +1357,10 @@ def leaving_clients():
             wait_until(lambda: not select.select([first], (), (), 0.5)[0], "a front that waits")
             with socket.create_connection(address, timeout=SECONDS) as last:
                 last.sendall(b'{"balance":3}\n')
-                calls = unpack_calls(marshal.loads(receive(server))[0])
+                calls = unpack_calls(marshal.loads(server.recv_bytes())[0])
                 same("the calls", [(front.numbers["balance"], account) for account in (1, 2, 3)], sorted(calls))
                 outcomes = [OUTCOME.pack(Kind.COMMITTED, 0, 1, 10 * account, *[0] * 7) for _, account in calls]
-                send(server, b"".join(outcomes) + marshal.dumps(([], "")))
+                server.send_bytes(marshal.dumps((b"".join(outcomes), [], "")))
                 turn.join()
                 for number, client in ((1, first), (3, last)):
                     same(f"the reply to client {number}", b'{"balance": %d, "has": %d}\n' % (number, 10 * number), client.recv(1000))
@@ -1824,6 +1824,41 @@ def hung_redis():
     return ends_while_away(Redis)
 
 
+# A program that asks a PostgreSQL, cuts it off, and asks again, with the network of no other program. It writes whether it is away then.
+CUT_OFF = """
+import pathlib, subprocess, sys
+sys.path[:0] = sys.argv[1:3]
+from urllib.parse import urlsplit
+from helpers.machines import Postgres, running
+from journal import Away
+from postgresql_journal import PostgresJournal
+def network(word):
+    subprocess.run(["ip", "link", "set", "lo", word], check=True)
+network("up")
+with running(Postgres, pathlib.Path(sys.argv[3])) as server:
+    journal = PostgresJournal(urlsplit(server.address))
+    print(*journal.read(1))
+    network("down")
+    try:
+        journal.read(1)
+    except Away:
+        print("away")
+    network("up")
+    print(*journal.read(1))
+"""
+
+
+def cut_off_postgresql():
+    """A PostgreSQL that is cut off is away after some seconds, and not for ever."""
+    if why := Postgres.missing() or Hosts.missing():
+        return f"left out: {why}"
+    with scratch() as folder:
+        words = ["unshare", "--net", python_with("psycopg2"), "-c", CUT_OFF, PAYMENTS, TESTS, folder]
+        begin, ran = time.monotonic(), subprocess.run(words, capture_output=True, text=True, timeout=SECONDS, check=False)
+        same("what it says", ("\naway\n\n", ""), (ran.stdout, ran.stderr))
+        return f"it takes {time.monotonic() - begin:.0f} s"
+
+
 def kill_primary(group, primary, load):
     kill = threading.Timer(0.2, group.servers[primary].process.kill)
     kill.start()
@@ -2214,7 +2249,7 @@ def main():
     cases += [full_disk, failing_fsync, large_snapshots, pieces, deletions, failed_snapshot, little_space, renewals, huge_pages, begun_snapshots]
     cases += [jumping_clock, other_procedures, bad_procedures]
     cases += [killed_fronts, vanished_clients, leaving_clients, slow_clients, many_lines, greedy_clients, full_fronts, idle_clients]
-    cases += [promotion, fenced_over_etcd, fenced_over_redis, fenced_over_postgresql, forks, asked_node, over_etcd, dying_nodes, ended_while_away, partitions, over_redis, hung_redis, forgetful_redis, redis_replicas, over_postgresql, forgetful_postgresql, postgresql_standby, crash_test]
+    cases += [promotion, fenced_over_etcd, fenced_over_redis, fenced_over_postgresql, forks, asked_node, over_etcd, dying_nodes, ended_while_away, partitions, over_redis, hung_redis, forgetful_redis, redis_replicas, over_postgresql, forgetful_postgresql, cut_off_postgresql, postgresql_standby, crash_test]
     return run_cases([case for case in cases if not names or case.__name__ in names], of="payments")
 
 

@@ -115,7 +115,7 @@ def cut(scratch, python, load):
     folder, rows = scratch / "many", old_payments(RECORDS)
     folder.mkdir()
     texts = {name: it.text for name, it in load_procedures(PAYMENTS / "procedures").items()}
-    (folder / f"{1:015}.snapshot").write_bytes(seal(json.dumps([1, texts, len(rows), zlib.crc32(rows)])) + b"\n" + rows)
+    (folder / f"{1:015}.snapshot").write_bytes(seal(json.dumps([1, texts, len(rows), zlib.crc32(rows)]).encode()) + b"\n" + rows)
     (folder / f"{2:015}.batches").touch()
     process = subprocess.Popen([python, PAYMENTS / "payments.py", "serve", folder], stdout=subprocess.PIPE, text=True)
     port = re.search(r"port (\d+)", process.stdout.readline())[1]

@@ -11,14 +11,14 @@ from typing import Any, Optional, Sequence
 sys.path.insert(0, str(pathlib.Path(__file__).resolve().parents[2] / "bindings" / "python"))
 from sgt import Engine, Kind, pack_calls, wrote  # noqa: E402
 
-# The history is cut after so many entries, or as many as there are records; a payment makes 28. And so many calls are replayed at once: an
-# outcome takes 384 bytes.
-ENTRIES, AT_ONCE = 16_000_000, 10_000
+ENTRIES = 16_000_000  # the history is cut after so many entries, or as many as there are records; a payment makes 28
 ROW = struct.Struct("<I4xqq")  # table, number and value of a row
-COMMITTED, NO_PROCEDURE = int(Kind.COMMITTED), 65_535  # a member of an enum is compared slowly; and the number of no procedure
+AT_ONCE = 10_000  # calls that are replayed: an outcome takes 384 bytes
+COMMITTED = int(Kind.COMMITTED)  # a member of an enum is compared slowly
 # The part of an outcome that a client gets, laid out as `sgt_outcome` of sgt.h: its reply's kind, the code, the number of answers, and the
 # answers.
 OUTCOME = struct.Struct("=8xI8xI24xI12x8q256x")
+NO_PROCEDURE = 65_535  # the number of none
 Call = Sequence[Any]  # the name of a procedure, and its arguments; as JSON it is an entry of the journal
 
 
@@ -33,8 +33,9 @@ class Procedure:
         self.name, self.text = name, file["procedure"]  # the text is as docs/FORMATS.md has it
         self.entry = json.dumps([name]).replace("%", "%%")[:-1] + ", %d" * self.text[0] + "]"  # of a call, by its arguments
         self.request: list[str] = file.get("request", [])  # clients can't ask for a procedure without any keys
+        self.is_for_administrators: bool = file.get("administration", False)
         self.rights: dict[str, str] = file.get("rights", {})  # by the key that has the account: pay, or read
-        self.is_for_administrators, self.writes = bool(file.get("administration")), any(f'["{word}"' in json.dumps(self.text) for word in ("put", "remove"))
+        self.writes = any(f'["{word}"' in json.dumps(self.text) for word in ("put", "remove"))
         # Replies by how many answers they have, in which %d stands for a number. To put JSON together by `dumps` takes four times as long.
         reported = file.get("reply", [])
         self._list = f", {json.dumps(reported)}: " if isinstance(reported, str) else ""  # of all answers, under one key
@@ -42,8 +43,8 @@ class Procedure:
         done = f", {json.dumps(file['done'])}: true".replace("%", "%%") if "done" in file else ""
         self._begin, self._most = "{" + keys[0], 8 if self._list else len(keys) - 1  # how many answers a client is told
         self._reported = [self._begin + done + "".join([", " + key for key in keys[1 : count + 1]]) + "%s}" for count in range(len(keys))]
-        # Why it refuses, by code; and whether it remembers that: then a first answer -N is a refusal by code N.
-        self._reasons, self._remembers = {int(code): reason for code, reason in file.get("refused", {}).items()}, bool(file.get("remembers"))
+        self._reasons = {int(code): reason for code, reason in file.get("refused", {}).items()}
+        self._remembers: bool = file.get("remembers", False)  # that a first answer -N is a refusal by code N
         Engine.bare(1, 1).procedure(self.text)  # says what is wrong with it
         if self.request and len(self.request) != self.text[0]:
             raise ValueError(f"the request has {len(self.request)} keys, and the procedure takes {self.text[0]} arguments")

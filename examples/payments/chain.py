@@ -2,12 +2,13 @@
 
 import json
 import time
-from typing import Any, Callable, Sequence, Union
+from typing import Any, Callable, Sequence, Union, cast
 
 from bank import ROW, Bank, Call, Unusable
 from journal import Away, Journal, Store, seal, unseal
 
-PATIENCE, PAUSE = 60.0, 0.05  # seconds that a primary waits for a journal that is away; between two times that a follower reads
+PATIENCE = 60.0  # seconds that a primary waits for a journal that is away
+PAUSE = 0.05  # seconds between two times that a follower reads
 CALLS = 10_000  # of a batch, at most: no journal takes batches of any size
 Opening = dict[str, Any]  # what a batch has in place of calls: procedures, from there on; accounts and cents, if it is the first batch
 Batch = Union[list[Call], Opening]
@@ -15,7 +16,7 @@ Batch = Union[list[Call], Opening]
 
 def seal_batch(number: int, seq: int, calls: Union[Sequence[str], Opening]) -> bytes:
     """A batch as bytes: its number, the number of its first call, which follows call `seq`, and the entries of its calls."""
-    return seal(f"[{number}, {seq + 1}, {json.dumps(calls) if isinstance(calls, dict) else '[' + ', '.join(calls) + ']'}]")
+    return seal(f"[{number}, {seq + 1}, {json.dumps(calls) if isinstance(calls, dict) else '[' + ', '.join(calls) + ']'}]".encode())
 
 
 def unseal_batch(data: bytes, number: int, seq: int) -> Batch:
@@ -25,8 +26,7 @@ def unseal_batch(data: bytes, number: int, seq: int) -> Batch:
         raise Unusable(f"batch {number} is damaged")
     if found[:2] != [number, seq + 1]:
         raise Unusable(f"where batch {number} with call {seq + 1} is due, there is batch {found[0]} with call {found[1]}")
-    calls: Batch = found[2]
-    return calls
+    return cast(Batch, found[2])
 
 
 def applied(bank: Bank, calls: Batch) -> Bank:

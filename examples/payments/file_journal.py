@@ -5,12 +5,12 @@ import pathlib
 import threading
 import time
 from bisect import bisect_right
-from typing import BinaryIO, Optional
+from typing import Any, BinaryIO
 
 from bank import Unusable
 from journal import Missing, is_whole, seal, store, sync_names
 
-SHORTEST = len(seal('[1, 1, [["a"]]]')) + 2  # bytes of a batch that has a call
+SHORTEST = len(seal(b'[1, 1, [["a"]]]')) + 2  # bytes of a batch that has a call
 
 
 class FileJournal:
@@ -18,7 +18,7 @@ class FileJournal:
 
     def __init__(self, folder: pathlib.Path, keep: bool = False) -> None:
         self.folder, self.keep, self._newest, self.report = folder, keep, folder / "newest", ""
-        self._file: Optional[BinaryIO] = None  # the last one, if this server leads
+        self._file: Any = None  # the last one, if this server leads
 
     def paths(self) -> list[pathlib.Path]:
         return sorted(self.folder.glob("*.batches"))
@@ -46,10 +46,9 @@ class FileJournal:
 
     def append(self, number: int, data: bytes) -> None:
         """An OSError must end the program: nobody knows what a failed fsync has kept. The newline before a line parts it from damage."""
-        if self._file:
-            self._file.write(b"\n%b\n" % data)
-            self._file.flush()
-            os.fsync(self._file)
+        self._file.write(b"\n%b\n" % data)
+        self._file.flush()
+        os.fsync(self._file)
 
     def check(self) -> None:
         """Nobody else can lead."""

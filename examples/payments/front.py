@@ -9,40 +9,43 @@ import signal
 import socket
 import ssl
 import time
-from itertools import islice
+from multiprocessing.connection import Connection, Pipe
+from multiprocessing.reduction import recv_handle
 from typing import Optional
 
 from bank import OUTCOME, Procedure
 from lines import LONGEST, Client, Line, Reader, Request, Tokens
-from link import receive, send
 from sgt import pack_calls
 
 FRONTS = 3  # processes: each waits while the server runs what it has asked, so they are more than are busy at a time
-# Clients of a front, or fewer if it may open fewer files: others wait until one has gone, or another front takes them. And its other files.
-CLIENTS, OTHER_FILES = 1000, 32
+CLIENTS = 1000  # of a front, or fewer if it may open fewer files. Others wait until one of them has gone, or another front takes them
+OTHER_FILES = 32  # that a front has open, at most
 UNTAKEN = 1 << 18  # bytes of replies that a client may leave. What it is heard of at once has less, unless it is mostly no requests
-AT_ONCE, PART, PAUSE = 64, 16_384, 0.05  # at most: how many clients a front hears at once, bytes of each, and seconds in which it waits for more
+# At most: how many clients a front hears at once, bytes of each, and seconds in which it waits for more.
+AT_ONCE, PART, PAUSE = 64, 16_384, 0.05
+Tls = Optional[ssl.SSLContext]  # none if clients need no certificate
 
 
 class Front:
     """It waits for the replies to what it has asked. What comes in meanwhile is asked next, at once."""
 
-    def __init__(self, listeners: list[socket.socket], server: socket.socket, reader: Reader, idle: float, tls: Optional[ssl.SSLContext]) -> None:
+    def __init__(self, listeners: list[socket.socket], server: Connection, reader: Reader, idle: float, tls: Tls) -> None:
         """The first listener is its own. Who waits at the others, as their fronts are full, is taken now and then."""
         # And how many clients the last turn had, and until when the next one waits for as many.
         self.listeners, self.server, self.reader, self.idle, self.tls, self.asked, self.until = listeners, server, reader, idle, tls, 0, 0.0
         self.now = self.swept = time.monotonic()
         self.clients: dict[int, Client] = {}
-        self.most, self.poll = max(1, min(CLIENTS, resource.getrlimit(resource.RLIMIT_NOFILE)[0] - OTHER_FILES)), select.epoll()
+        self.most = max(1, min(CLIENTS, resource.getrlimit(resource.RLIMIT_NOFILE)[0] - OTHER_FILES))
+        self.poll = select.epoll()
         self.poll.register(server, select.EPOLLIN)  # it says nothing unasked, but ends
 
     def run(self) -> None:
         """Runs until the server has ended. Signals are for the server."""
         signal.pthread_sigmask(signal.SIG_BLOCK, {signal.SIGTERM, signal.SIGINT})
         with contextlib.suppress(EOFError, ConnectionError):
+            self.numbers: dict[str, int] = marshal.loads(self.server.recv_bytes())  # of the procedures, once the server has recovered
             if self.reader.takes_words:
-                self.listeners = [socket.socket(fileno=it) for it in socket.recv_fds(self.server, 1, 1)[1]]
-            self.numbers: dict[str, int] = marshal.loads(receive(self.server))  # of the procedures, once the server has recovered
+                self.listeners = [socket.socket(fileno=recv_handle(self.server))]
             for it in self.listeners:
                 it.setblocking(False)
             self.poll.register(self.listeners[0], select.EPOLLIN)
@@ -57,21 +60,20 @@ class Front:
         # Where the server takes many milliseconds, as by a slow journal, larger batches are worth a wait.
         self.asked, self.until = min(len(asked), AT_ONCE), (now := time.monotonic()) + min((now - self.now) / 2 - 0.001, PAUSE)
         for client, lines in asked:
-            texts = [f"[{', '.join(islice(reported, len(line)))}]" if type(line) is list else next(reported) for line in lines]
+            texts = [f"[{', '.join([next(reported) for _ in line])}]" if type(line) is list else next(reported) for line in lines]
             client.unsent = "\n".join([*texts, ""]).encode()
             self.go_on(client)  # if it does not take them it can ask again, with its ids
 
     def reported(self, requests: list[Request]) -> list[str]:
         """The reply to each request."""
         calls = [it for it in requests if type(it) is tuple]
-        words = [it for it in requests if type(it) is dict]
+        words = [word for it in requests if type(it) is dict for word in it.items()]
         if not calls and not words:
             return [it for it in requests if isinstance(it, str)]  # they are replies
         packed = pack_calls([(self.numbers[procedure.name], *args) for procedure, args in calls])
-        send(self.server, marshal.dumps((packed, [procedure.entry % args for procedure, args in calls], words)))
-        replied, at = memoryview(receive(self.server)), len(calls) * OUTCOME.size
-        of_words, age = marshal.loads(replied[at:])
-        reported = iter([procedure.reply(outcome, args[0], age) for (procedure, args), outcome in zip(calls, OUTCOME.iter_unpack(replied[:at]))])
+        self.server.send_bytes(marshal.dumps((packed, [procedure.entry % args for procedure, args in calls], words)))
+        outcomes, of_words, age = marshal.loads(self.server.recv_bytes())
+        reported = iter([procedure.reply(it, args[0], age) for (procedure, args), it in zip(calls, OUTCOME.iter_unpack(outcomes))])
         return [next(reported) if type(it) is tuple else it if type(it) is str else of_words.pop(0) for it in requests]
 
     def wait(self) -> list[tuple[Client, list[Line]]]:
@@ -141,7 +143,8 @@ class Front:
         if not data:
             raise ConnectionResetError
         *texts, heard = (client.heard + data).split(b"\n")
-        client.heard, client.since = heard[: LONGEST + 1], self.now if texts else client.since
+        client.heard = heard[: LONGEST + 1]
+        client.since = self.now if texts else client.since
         return [self.reader.read(text, client) for text in texts]
 
 
@@ -159,15 +162,15 @@ def listen(host: str, port: int) -> list[socket.socket]:
 
 
 def start_fronts(
-    procedures: dict[str, Procedure], host: str, port: int, idle: float = 60, tokens: Tokens = None, tls: Optional[ssl.SSLContext] = None
-) -> tuple[int, list[socket.socket]]:
+    procedures: dict[str, Procedure], host: str, port: int, idle: float = 60, tokens: Tokens = None, tls: Tls = None
+) -> tuple[int, list[Connection]]:
     """Starts the front processes, before anything is opened that they must not share. Their port, and a connection to each.
 
     After `idle` seconds a client is dropped. The last front is for administrators alone: the server sends it a socket to listen at.
     """
     listeners, fronts = listen(host, port), []
     for number in range(FRONTS + 1):
-        front, server = socket.socketpair()
+        front, server = Pipe()
         fronts.append(front)
         if os.fork() == 0:
             for it in fronts:

@@ -13,8 +13,10 @@ from typing import Any, Callable, Iterable, Protocol, Sequence
 
 from bank import Bank, Unusable
 
-AT_ONCE, FOLLOWING = 200, 50_000  # batches that are read; that stay for a server that is away
-LEASE, TRY = 3, 1.5  # seconds without a word of the primary, after which another server leads; until a request is given up
+AT_ONCE = 200  # batches that are read
+FOLLOWING = 50_000  # batches that stay for a server that is away
+LEASE = 3  # seconds without a word of the primary, after which another server leads
+TRY = 1.5  # seconds until a request is given up
 BEAT = threading.Lock()  # has who renews a lease, or forks
 
 
@@ -69,15 +71,14 @@ def keep_alive(renew: Callable[[], object]) -> None:
     threading.Thread(target=live, daemon=True).start()
 
 
-def seal(text: str) -> bytes:
+def seal(body: bytes) -> bytes:
     """JSON as a line without its newline, after a checksum."""
-    return b"%08x %b" % (zlib.crc32(body := text.encode()), body)
+    return b"%08x %b" % (zlib.crc32(body), body)
 
 
 def is_whole(line: bytes) -> bool:
     """Whether a line is as it was sealed."""
-    checksum, _, body = line.partition(b" ")
-    return checksum == b"%08x" % zlib.crc32(body)
+    return line == seal(line.partition(b" ")[2])
 
 
 def unseal(line: bytes) -> Any:
@@ -159,7 +160,7 @@ class Store:
             rows = bank.rows()
             if 2 * shutil.disk_usage(self.folder).free < 3 * len(rows):
                 raise OSError("it would take most of what is free on the disk, which the journal may need")
-            store(self.path(number), seal(json.dumps([bank.seq, bank.texts, len(rows), zlib.crc32(rows)])) + b"\n", rows)
+            store(self.path(number), seal(json.dumps([bank.seq, bank.texts, len(rows), zlib.crc32(rows)]).encode()) + b"\n", rows)
         except (OSError, MemoryError) as why:
             self.path(number).with_suffix(".new").unlink(missing_ok=True)
             return f"no snapshot {self.path(number)}: {why}"

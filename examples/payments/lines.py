@@ -77,7 +77,8 @@ class Reader:
 
 def may(rights: dict[str, list[list[int]]], procedure: Procedure, asked: dict[str, int]) -> bool:
     """Whether somebody with these rights may ask for this. What needs no right by its file is for administrators alone."""
-    return bool(it := procedure.rights) and all(any(first <= asked[key] <= last for first, last in rights.get(right, ())) for key, right in it.items())
+    needed = procedure.rights.items()
+    return bool(needed) and all(any(first <= asked[key] <= last for first, last in rights.get(right, ())) for key, right in needed)
 
 
 def load_tokens(path: pathlib.Path) -> dict[str, Rights]:

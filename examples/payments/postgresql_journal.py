@@ -12,10 +12,13 @@ from urllib.parse import SplitResult
 import psycopg2
 
 from bank import Unusable
-from journal import AT_ONCE, LEASE, Away, Fenced, from_number, keep_alive, needed
+from journal import AT_ONCE, LEASE, TRY, Away, Fenced, from_number, keep_alive, needed
 
-AT_SAME_TIME = {"23505", "42P07", "42710"}  # codes of errors where two servers make the tables at the same time: there is one already
-TABLES = """set synchronous_commit = on; create table if not exists batch (number bigint primary key, data bytea not null);
+# In seconds, and the last one in milliseconds: until a PostgreSQL whose machine is cut off is away.
+LIMITS = {"connect_timeout": 2, "keepalives_idle": 1, "keepalives_interval": 1, "tcp_user_timeout": int(TRY * 1000)}
+# The lock is for servers that make the tables at the same time.
+TABLES = """set synchronous_commit = on; select pg_advisory_xact_lock(7501);
+create table if not exists batch (number bigint primary key, data bytea not null);
 create table if not exists leader (only_row boolean primary key, nonce text not null, until timestamptz not null);
 create table if not exists stored (server text primary key, number bigint not null); show fsync"""
 LEAD = f"""insert into leader values (true, %(nonce)s, now() + interval '{LEASE} s') on conflict (only_row)
@@ -35,17 +38,17 @@ class PostgresJournal:
     def _ask(self, text: str, **values: Any) -> list[tuple[Any, ...]]:
         try:
             if self._link is None:
-                self._link = psycopg2.connect(self.address.geturl(), connect_timeout=2)
+                self._link = psycopg2.connect(self.address.geturl(), **LIMITS)
                 self._link.autocommit = True
                 if self._ask(TABLES) != [("on",)]:
                     raise Unusable("PostgreSQL: it must run with fsync on")
             with self._link.cursor() as cursor:
                 cursor.execute(text, values)
                 return list(cursor.fetchall()) if cursor.description else []
+        except (psycopg2.OperationalError, psycopg2.InterfaceError) as why:
+            self._link = None
+            raise Away(f"PostgreSQL: {why}") from None
         except psycopg2.Error as why:
-            if isinstance(why, (psycopg2.OperationalError, psycopg2.InterfaceError)) or why.pgcode in AT_SAME_TIME:
-                self._link = None
-                raise Away(f"PostgreSQL: {why}") from None
             raise Unusable(f"PostgreSQL: {why}") from None
 
     def lead(self) -> bool:

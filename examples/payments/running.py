@@ -2,7 +2,6 @@
 
 import contextlib
 import ctypes
-import marshal
 import os
 import pathlib
 import signal
@@ -10,12 +9,12 @@ import socket
 import time
 from collections import deque
 from concurrent.futures import Future, ThreadPoolExecutor
+from multiprocessing import connection, reduction
 from typing import Optional
 
 from bank import Bank, Unusable
 from chain import Chain
 from journal import BEAT, Store
-from link import receive, send
 from server import Server
 
 
@@ -33,16 +32,16 @@ def listen_at(path: pathlib.Path) -> socket.socket:
 def run(server: Server, port: int, admin: pathlib.Path, begin: float) -> None:
     """Runs a server until SIGTERM or SIGINT."""
     with listen_at(admin) as listener:
-        socket.send_fds(server.fronts[-1], [b"."], [listener.fileno()])
-    for front in server.fronts:
-        send(front, marshal.dumps(server.chain.bank.numbers))
-    print(f"serving on port {port} after call {server.chain.bank.seq}, started in {time.perf_counter() - begin:.2f} s, process {os.getpid()}", flush=True)
+        reduction.send_handle(server.fronts[-1], listener.fileno(), None)
+    seconds = time.perf_counter() - begin
+    print(f"serving on port {port} after call {server.chain.bank.seq}, started in {seconds:.2f} s, process {os.getpid()}", flush=True)
     renewal: Optional[Renewal] = None
     while not server.chain.ends:
         at = time.monotonic()
         server.turn()
         if renewal:
-            time.sleep(min(time.monotonic() - at, 0.02) * renewal.catches_up)  # as the new bank has to catch up, the old one works half of the time
+            # As the new bank has to catch up, the old one works half of the time.
+            time.sleep(min(time.monotonic() - at, 0.02) * renewal.catches_up)
             renewal = renewal.end(server) if renewal.made.done() else renewal
         elif server.chain.bank.is_long():
             renewal = Renewal(server)
@@ -65,19 +64,19 @@ class Renewal:
         server.flush()
         self.old, self.number, self.catches_up = server.chain.bank, server.chain.number, False
         self.old.noted = self.noted = deque[bytes]()
-        (link, its_link), child = socket.socketpair(), -1
+        (link, its_link), child = connection.Pipe(duplex=False), -1
         with BEAT, contextlib.suppress(OSError):  # so no other thread holds a lock
             child = os.fork()
         if child == 0:
             ctypes.CDLL(None).prctl(1, signal.SIGKILL)  # PR_SET_PDEATHSIG: if the server dies, it does at once
-            send(its_link, server.chain.store.save(self.number, self.old).encode())
+            its_link.send(server.chain.store.save(self.number, self.old))
             os._exit(0)
         its_link.close()
         self.made: Future[Bank] = ThreadPoolExecutor(1).submit(self._make, server.chain.store, link)
 
-    def _make(self, store: Store, link: socket.socket) -> Bank:
-        if trouble := receive(link):
-            raise Unusable(trouble.decode())
+    def _make(self, store: Store, link: connection.Connection) -> Bank:
+        if trouble := link.recv():
+            raise Unusable(trouble)
         bank = store.load(self.number)
         self.catches_up = True
         bank.rerun(self.noted, left=8)  # requests of fronts: their calls run in some milliseconds

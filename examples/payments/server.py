@@ -4,38 +4,39 @@ import hashlib
 import json
 import marshal
 import select
-import socket
 import time
 from concurrent.futures import Future, ThreadPoolExecutor
+from io import BytesIO
+from multiprocessing.connection import Connection, Pipe
 from typing import Any, Optional, Sequence
 
 from bank import NO_PROCEDURE, OUTCOME, ROW, Procedure
 from chain import PAUSE, Chain
-from link import receive, send
 from sgt import pack_calls, unpack_calls
 
-# Seconds: of an append, above which it gains more than it costs to have a thread make it; and without a request, after which the journal
-# notes what is safe.
-QUICK, IDLE = 0.0005, 0.1
-# What ran at once: the entries of calls that wrote, or none if nothing goes to the journal; which front asked, if one did, and what it gets.
-Group = tuple[Optional[list[str]], Optional[socket.socket], bytes]
+QUICK = 0.0005  # seconds of an append. To have a thread make it costs less than it gains only where it takes longer
+IDLE = 0.1  # seconds without a request, after which the journal notes what is safe
+# What ran at once: the entries of calls that wrote, or none if nothing goes to the journal; which front asked, if one did; what it gets.
+Group = tuple[Optional[list[str]], Optional[Connection], bytes]
 
 
 class Server:
     """A primary, or a follower, which answers what does not write, and says how old its answers may be."""
 
-    def __init__(self, chain: Chain, fronts: list[socket.socket], procedures: dict[str, Procedure]) -> None:
+    def __init__(self, chain: Chain, fronts: list[Connection], procedures: dict[str, Procedure]) -> None:
         self.chain, self.fronts, self.procedures = chain, fronts, procedures
         # The entries of calls that ran, and are in no group yet; what has run; what is being made safe; and the fronts of the last batch.
-        self.entries, self.groups, self.appended, self.latest = list[str](), list[Group](), list[Group](), set[Optional[socket.socket]]()
-        self.appender, (self.is_safe, self.says_so) = ThreadPoolExecutor(1), socket.socketpair()
+        self.entries, self.groups, self.appended, self.latest = list[str](), list[Group](), list[Group](), set[Optional[Connection]]()
+        self.appender, (self.is_safe, self.says_so) = ThreadPoolExecutor(1), Pipe(duplex=False)
         self.appends: Optional[Future[None]] = None  # an append by a thread, which says by a byte that it is done
         # The trouble of the last snapshot; and whether no old id was left, on this day of the bank.
         self.is_marked, self.day, self.trouble, self.forgot = True, -1, "", False
-        # When the last replies were sent, and how many fronts the last two batches were of. Since the start: calls, batches, and their seconds.
+        # When the last replies were sent, and how many fronts the last two batches were of. Since the start: calls, batches, their seconds.
         self.began, self.replied, self.asked, self.calls, self.batches, self.appending = time.monotonic(), 0.0, 0, 0, 0, 0.0
         self.words = {"rows": self.rows, "health": self.health, "figures": self.figures, "day": self.set_day}  # what administrators may ask
         self.writers = {chain.bank.numbers[name] for name, it in procedures.items() if it.writes}
+        for front in fronts:
+            front.send_bytes(marshal.dumps(chain.bank.numbers))
 
     def turn(self) -> None:
         """Waits for requests, runs what has come in, and replies to what is safe."""
@@ -50,7 +51,7 @@ class Server:
                     self.reply()
                 if fronts := [it for it in ready if it is not self.is_safe]:
                     self.serve(fronts)
-                # What has come in meanwhile shares the append, unless to run this has taken as long: then fronts had better have these replies.
+                # What has come in meanwhile shares the append, unless to run this has taken as long: then fronts had better have replies.
                 is_early = (time.monotonic() - begin) * self.batches < self.appending
                 ready = select.select([self.is_safe, *self.fronts], (), (), self.rest())[0] if is_early else []
             self.begin_append()
@@ -62,21 +63,22 @@ class Server:
         if self.entries or not self.is_marked:
             self.add_group(self.entries)
 
-    def serve(self, fronts: Sequence[socket.socket]) -> None:
+    def serve(self, fronts: Sequence[Connection]) -> None:
         """Runs what fronts have asked: packed calls, whose entries these are, and words to the server itself."""
-        asked, at = [(front, *marshal.loads(receive(front))) for front in fronts], 0
-        outcomes = self.run(b"".join([calls for _, calls, _, _ in asked]), [it for _, _, entries, _ in asked for it in entries])
+        asked = [(front, *marshal.loads(front.recv_bytes())) for front in fronts]
+        calls = b"".join([calls for _, calls, _, _ in asked])
+        outcomes = BytesIO(self.run(calls, [it for _, _, entries, _ in asked for it in entries]))
         self.forget()
         # What a follower adds to a reply: payments that were acknowledged later may be missing in it.
         age = "" if self.chain.leads else f', "seconds_old": {time.monotonic() - self.chain.fresh:.3f}'
         for front, _, entries, words in asked:
             if words:
                 self.flush()  # so that they report of no call that may be lost
-            reported = [self.words[word](value) if word in self.words else {"error": "no word of this server"} for it in words for word, value in it.items()]
-            own = outcomes[at : (at := at + len(entries) * OUTCOME.size)]
-            self.add_group(self.entries or None, front, own + marshal.dumps(([*map(json.dumps, reported)], age)))
+            reported = [self.words[word](value) if word in self.words else {"error": "no word of this server"} for word, value in words]
+            own = outcomes.read(len(entries) * OUTCOME.size)
+            self.add_group(self.entries or None, front, marshal.dumps((own, [*map(json.dumps, reported)], age)))
 
-    def add_group(self, entries: Optional[list[str]], front: Optional[socket.socket] = None, reply: bytes = b"") -> None:
+    def add_group(self, entries: Optional[list[str]], front: Optional[Connection] = None, reply: bytes = b"") -> None:
         """Has this made safe next, and then replied."""
         if entries is not None:
             self.entries, self.is_marked = [], not entries
@@ -89,7 +91,7 @@ class Server:
             parts = [it for it, _, _ in self.appended if it is not None]
             if self.appending > QUICK * self.batches:
                 self.appends = self.appender.submit(self.append, parts)
-                self.appends.add_done_callback(lambda _: send(self.says_so, b""))
+                self.appends.add_done_callback(lambda _: self.says_so.send_bytes(b"."))
             else:
                 self.append(parts)
                 self.reply()
@@ -105,10 +107,10 @@ class Server:
     def reply(self) -> None:
         """Replies to what is safe, once it is. Nothing is told before: a refusal or a balance may rest on a call that ran before it."""
         if self.appends:
-            receive(self.is_safe)
+            self.is_safe.recv_bytes()
             self.appends = self.appends.result()  # none, or raises what the append has failed with
         for front, reply in [(front, reply) for _, front, reply in self.appended if front]:
-            send(front, reply)
+            front.send_bytes(reply)
         self.asked = len((fronts := {front for _, front, _ in self.appended}) | self.latest)
         self.latest, self.replied, self.appended = fronts, time.monotonic(), []
 
