@@ -1952,7 +1952,7 @@ def on_host(name, folder):
     (page,) = [block for block in (PAYMENTS / "README.md").read_text().split("```") if "etcd --name a" in block]
     for of_a in ("--name a ", "--initial-advertise-peer-urls http://a:", "--advertise-client-urls http://a:"):
         page = page.replace(of_a, of_a.replace("a ", f"{name} ").replace("//a:", f"//{name}:"))
-    page = page.replace("/var/lib/", f"{folder}/{name}-").replace("examples/payments/payments.py", f"{python_with('etcd3')} {PAYMENTS / 'payments.py'}")
+    page = page.replace("/var/lib/", f"{folder}/{name}-").replace("/usr/bin/python3 examples/payments/payments.py", f"{python_with('etcd3')} {PAYMENTS / 'payments.py'}")
     etcd, _, server = page.partition("\nuntil ")
     return f"{etcd} &\nuntil {server}"
 
