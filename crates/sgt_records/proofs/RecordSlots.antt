@@ -1,5 +1,5 @@
 -- The effect of a changed record and its chain on the keys.
-use Rattle.std.proofs.Common.{◌≡◌, ◌≢◌, ℕ, ◌<◌, nat_eq, length, unwrap_or, ℤ, Bool, true, false, cond, List, [], ◌⊎◌, inl, inr, Option, Some, None, Result, Ok, Err, OnOk, OnErr, IfSome, refl, sym, ap, ◌∙◌, subst}
+use Rattle.std.proofs.Common.{◌≡◌, ◌≢◌, ℕ, ◌<◌, nat_eq, length, unwrap_or, ℤ, Bool, true, false, cond, List, [], ◌⊎◌, inl, inr, Option, Some, None, IfSome, refl, sym, ap, ◌∙◌, subst}
 use Rattle.std.proofs.lemmas.Bool.{true≢false, eq-eqb, eqb-true}
 use Rattle.std.specs.Option.{is_some, option_and_then, unwrap_or}
 use Rattle.slab.specs.Slab.{Slab}
@@ -15,7 +15,6 @@ use Rattle.sgt_records.specs.declared.written.Written.{Written}
 use Rattle.sgt_records.specs.declared.written.Written.TheVariants.{Nothing, Once, InSlot}
 use Rattle.sgt_records.specs.Slots.{writes_of, chain_at, slot_in, Moves, written_by, slot_of, key_chain, committed_of, IsIndex}
 use Rattle.sgt_records.specs.Validity.{IsChain}
-use Rattle.sgt_records.proofs.ChainsKept.{chain_empty}
 
 -- a chain where none is
 nothing_held : (b : Option Chain) → b ≡ None → is_some b ≡ true → ⊥
@@ -31,39 +30,32 @@ chain_alike a b same Nothing = refl
 chain_alike a b same (Once t v) = refl
 chain_alike a b same (InSlot p) = ap writes_of (same p)
 
--- nothing moves where nothing changes
-pub stays : (a b : Slab Chain) (from to : Option ℕ) → ((p : ℕ) → slab.get b p ≡ slab.get a p) → from ≡ None → to ≡ None → Moves a b from to
-stays a b from to same was is = record {
-  held = λ p at. absurd (true≢false (sym (ap is_some (sym is ∙ at))));
-  filled = λ p at. absurd (true≢false (sym (ap is_some (sym is ∙ at))));
-  free = λ p at. absurd (true≢false (sym (ap is_some (sym is ∙ at))));
-  given_back = λ p at _. absurd (true≢false (sym (ap is_some (sym was ∙ at))));
-  others = λ p _ _. same p;
-}
-
-module _ (m n : Key → Option Record) (a b : Slab Chain) (records : (k : Key) → n k ≡ m k)
-    (same : (p : ℕ) → slab.get b p ≡ slab.get a p) where
+-- records of the same values, committed and pending
+module _ (m n : Key → Option Record) (a b : Slab Chain) (written : (k : Key) → written_by (n k) ≡ written_by (m k))
+    (committed : (k : Key) → committed_of n k ≡ committed_of m k) (same : (p : ℕ) → slab.get b p ≡ slab.get a p) where
   slot_alike : (k : Key) → slot_of n k ≡ slot_of m k
-  slot_alike k = ap (λ o. slot_in (written_by o)) (records k)
+  slot_alike k = ap slot_in (written k)
 
-  -- the chains are as before
-  pub chains_alike : (k : Key) → key_chain n b k ≡ key_chain m a k
-  chains_alike k = ap (λ o. chain_at b (written_by o)) (records k) ∙ chain_alike a b same (written_by (m k))
-
-  -- and so are the committed values
-  pub committed_alike : (k : Key) → committed_of n k ≡ committed_of m k
-  committed_alike k = ap (option_and_then (λ (r : Record). r.committed)) (records k)
+  chains_by_value : (k : Key) → key_chain n b k ≡ key_chain m a k
+  chains_by_value k = ap (chain_at b) (written k) ∙ chain_alike a b same (written_by (m k))
 
   -- and the index
-  pub index_alike : IsIndex m a → IsIndex n b
-  index_alike index = record {
+  pub index_by_value : IsIndex m a → IsIndex n b
+  index_by_value index = record {
     held = λ k p at. ap is_some (same p) ∙ index.held k p (sym (slot_alike k) ∙ at);
     filled = λ k p at. subst (λ o. 0 < length (writes_of o)) (sym (same p)) (index.filled k p (sym (slot_alike k) ∙ at));
     owned = λ p none. ap is_some (same p) ∙ index.owned p (λ k at. none k (slot_alike k ∙ at));
     apart = λ j k p at at'. index.apart j k p (sym (slot_alike j) ∙ at) (sym (slot_alike k) ∙ at');
-    are_chains = λ k. subst IsChain (sym (chains_alike k)) (index.are_chains k);
-    in_range = λ k. subst (λ (o : Option ℤ). IfSome o IsValue) (sym (committed_alike k)) (index.in_range k);
+    are_chains = λ k. subst IsChain (sym (chains_by_value k)) (index.are_chains k);
+    in_range = λ k. subst (λ (o : Option ℤ). IfSome o IsValue) (sym (committed k)) (index.in_range k);
   }
+
+-- the same records
+module _ (m n : Key → Option Record) (a b : Slab Chain) (records : (k : Key) → n k ≡ m k)
+    (same : (p : ℕ) → slab.get b p ≡ slab.get a p) where
+  pub index_alike : IsIndex m a → IsIndex n b
+  index_alike = index_by_value m n a b (λ k. ap written_by (records k))
+      (λ k. ap (option_and_then (λ (r : Record). r.committed)) (records k)) same
 
 -- records with no chain
 module _ (m : Key → Option Record) (a : Slab Chain) (none : (k : Key) → written_by (m k) ≡ Nothing) where
@@ -127,14 +119,6 @@ module _ (m n : Key → Option Record) (key : Key) (r : Record) (returned : (k :
       go : (b : Bool) → key_eq key k ≡ b → cond b r.committed (committed_of m k) ≡ committed_of m k
       go true e = same ∙ ap (committed_of m) (key_eq-true key k e)
       go false e = refl
-
-  -- no key has been written, if the record has not
-  pub still_none : r.written ≡ Nothing → ((k : Key) → written_by (m k) ≡ Nothing) → (k : Key) → written_by (n k) ≡ Nothing
-  still_none here none k = written_returned k ∙ go (key_eq key k)
-    where
-      go : (b : Bool) → cond b r.written (written_by (m k)) ≡ Nothing
-      go true = here
-      go false = none k
 
   module _ (a b : Slab Chain) (index : IsIndex m a) (from : Written) (was : written_by (m key) ≡ from)
       (moves : Moves a b (slot_in from) (slot_in r.written)) where
@@ -276,29 +260,29 @@ module _ (m n : Key → Option Record) (key : Key) (r : Record) (returned : (k :
       let chain = chain_there m a key old is index in
       index_returned m n key r returned a b index old.written was moves (chained chain) (valued chain (value_there m a key old is index))
 
--- an empty record for a key that has none
-module _ (m n : Key → Option Record) (a b : Slab Chain) (key : Key) (r : Record) (absent : m key ≡ None) (here : r.written ≡ Nothing)
-    (none : r.committed ≡ None) (same : (p : ℕ) → slab.get b p ≡ slab.get a p) (index : IsIndex m a)
-    (returned : (k : Key) → n k ≡ cond (key_eq key k) (Some r) (m k)) where
-  -- nothing was written
-  unwritten : written_by (m key) ≡ Nothing
-  unwritten = ap written_by absent
+-- each record is as before, or an empty one where there was none
+module _ (m n : Key → Option Record) (a b : Slab Chain) (r : Record) (here : r.written ≡ Nothing) (none : r.committed ≡ None)
+    (same : (p : ℕ) → slab.get b p ≡ slab.get a p) (each : (k : Key) → (n k ≡ m k) ⊎ ((m k ≡ None) × (n k ≡ Some r))) where
+  written_added : (k : Key) → written_by (n k) ≡ written_by (m k)
+  written_added k = go (each k)
+    where
+      go : (n k ≡ m k) ⊎ ((m k ≡ None) × (n k ≡ Some r)) → written_by (n k) ≡ written_by (m k)
+      go (inl as_before) = ap written_by as_before
+      go (inr empty) = ap written_by empty.1 ∙ (here ∙ sym (ap written_by empty.0))
 
-  unmoved : Moves a b None (slot_in r.written)
-  unmoved = stays a b None (slot_in r.written) same refl (ap slot_in here)
+  committed_added : (k : Key) → committed_of n k ≡ committed_of m k
+  committed_added k = go (each k)
+    where
+      committed : Option Record → Option ℤ
+      committed o = option_and_then (λ (r : Record). r.committed) o
 
-  -- and the index stands
-  pub index_empty : IsIndex n b
-  index_empty = index_returned m n key r returned a b index Nothing unwritten unmoved (subst IsChain (sym (ap (chain_at b) here)) chain_empty)
-      (subst (λ (o : Option ℤ). IfSome o IsValue) (sym none) tt)
+      go : (n k ≡ m k) ⊎ ((m k ≡ None) × (n k ≡ Some r)) → committed (n k) ≡ committed (m k)
+      go (inl as_before) = ap committed as_before
+      go (inr empty) = ap committed empty.1 ∙ (none ∙ sym (ap committed empty.0))
 
--- whatever came of adding it
-module _ (m n : Key → Option Record) (a b : Slab Chain) (key : Key) (r : Record) (absent : m key ≡ None) (here : r.written ≡ Nothing)
-    (none : r.committed ≡ None) (same : (p : ℕ) → slab.get b p ≡ slab.get a p) (index : IsIndex m a) {T F : Type 0} where
-  pub index_added : (result : Result T F) → OnOk result ((k : Key) → n k ≡ cond (key_eq key k) (Some r) (m k))
-      → OnErr result ((k : Key) → n k ≡ m k) → IsIndex n b
-  index_added (Ok x) returned alike = index_empty m n a b key r absent here none same index returned
-  index_added (Err e) returned alike = index_alike m n a b alike same index
+  -- and the index
+  pub index_added : IsIndex m a → IsIndex n b
+  index_added = index_by_value m n a b written_added committed_added same
 
 -- a record that had no value, committed or pending, is dropped
 module _ (m n : Key → Option Record) (a : Slab Chain) (key : Key) (r : Record) (is : m key ≡ Some r) (here : r.written ≡ Nothing)
@@ -313,15 +297,7 @@ module _ (m n : Key → Option Record) (a : Slab Chain) (key : Key) (r : Record)
       go true e = sym (ap written_by (it_was k e) ∙ here)
       go false e = refl
 
-  slot_dropped : (k : Key) → slot_of n k ≡ slot_of m k
-  slot_dropped k = ap slot_in (written_dropped k)
-
-  -- the chains are as before
-  pub chains_dropped : (k : Key) → key_chain n a k ≡ key_chain m a k
-  chains_dropped k = ap (chain_at a) (written_dropped k)
-
-  -- and so are the committed values
-  pub committed_dropped : (k : Key) → committed_of n k ≡ committed_of m k
+  committed_dropped : (k : Key) → committed_of n k ≡ committed_of m k
   committed_dropped k = ap (option_and_then (λ (r : Record). r.committed)) (returned k) ∙ go (key_eq key k) refl
     where
       go : (b : Bool) → key_eq key k ≡ b
@@ -331,11 +307,4 @@ module _ (m n : Key → Option Record) (a : Slab Chain) (key : Key) (r : Record)
 
   -- and the index
   pub index_dropped : IsIndex m a → IsIndex n a
-  index_dropped index = record {
-    held = λ k p at. index.held k p (sym (slot_dropped k) ∙ at);
-    filled = λ k p at. index.filled k p (sym (slot_dropped k) ∙ at);
-    owned = λ p none. index.owned p (λ k at. none k (slot_dropped k ∙ at));
-    apart = λ j k p at at'. index.apart j k p (sym (slot_dropped j) ∙ at) (sym (slot_dropped k) ∙ at');
-    are_chains = λ k. subst IsChain (sym (chains_dropped k)) (index.are_chains k);
-    in_range = λ k. subst (λ (o : Option ℤ). IfSome o IsValue) (sym (committed_dropped k)) (index.in_range k);
-  }
+  index_dropped = index_by_value m n a a written_dropped committed_dropped (λ p. refl)

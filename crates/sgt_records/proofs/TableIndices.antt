@@ -144,6 +144,32 @@ module _ (old new : BTreeMap Key ℕ) (records : List Record) (are : AreIndices 
       go false None is = refl
       go false (Some p) is = before_added records r p (are.within k p is)
 
+-- a key's index that is put back
+module _ (old mid new : BTreeMap Key ℕ) (key : Key) (p q : ℕ) (at : get key_cmp old key ≡ Some p)
+    (put : Updates key_cmp old mid key (Some q)) (back : Updates key_cmp mid new key (Some p)) where
+  -- each index is as before
+  pub index_back : (k : Key) → get key_cmp new k ≡ get key_cmp old k
+  index_back k = back.0 k
+      ∙ (ap (λ b. cond b (Some p) (get key_cmp mid k)) (same_key key k)
+      ∙ (ap (λ o. cond (key_eq key k) (Some p) o) (put.0 k ∙ ap (λ b. cond b (Some q) (get key_cmp old k)) (same_key key k))
+      ∙ go (key_eq key k) refl))
+    where
+      go : (e : Bool) → key_eq key k ≡ e → cond e (Some p) (cond e (Some q) (get key_cmp old k)) ≡ get key_cmp old k
+      go true e = sym at ∙ ap (get key_cmp old) (key_eq-true key k e)
+      go false e = refl
+
+  pub indices_back : (records : List Record) → AreIndices old records → AreIndices new records
+  indices_back records are = record {
+    within = λ k n is. are.within k n (sym (index_back k) ∙ is);
+    apart = λ j k n is is'. are.apart j k n (sym (index_back j) ∙ is) (sym (index_back k) ∙ is');
+  }
+
+  pub keys_back : (keys : List Key) (count : ℕ) → AreKeys old keys count → AreKeys new keys count
+  keys_back keys count have = record {
+    as_many = have.as_many;
+    are_indexed = λ k n is. index_back k ∙ have.are_indexed k n is;
+  }
+
 -- what a clause says of a result
 pub on_ok : {T F P : Type 0} (r : Result T F) → is_err r ≡ false → OnOk r P → P
 on_ok (Ok x) is p = p

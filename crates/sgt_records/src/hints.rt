@@ -5,6 +5,9 @@ use std::alloc::Global;
 /// The fewest pairs of guesses, if there are any.
 const FEWEST: usize = 64;
 
+/// No guess: it is above all indices that are guessed.
+const NONE: u32 = u32::MAX;
+
 /// Guesses of the indices of records by their keys: two for each hash of a key, the newer first.
 ///
 /// Nothing is promised of a guess: it may be another key's, or of no record. The caller must check whether the record there
@@ -55,7 +58,35 @@ impl Hints {
         let spot = spot_of(key, self.pairs.len());
         if spot < self.pairs.len() {
             let (newer, _) = self.pairs[spot];
-            self.pairs[spot] = (index.min(u32::MAX as usize) as u32, newer);
+            self.pairs[spot] = (guess_of(index), newer);
+        }
+    }
+
+    /// Drops the index of the record of a key.
+    #[inline(always)]
+    pub fn drop_index(&mut self, key: Key, index: usize) {
+        let spot = spot_of(key, self.pairs.len());
+        if spot < self.pairs.len() {
+            let (newer, older) = self.pairs[spot];
+            if newer == guess_of(index) {
+                self.pairs[spot] = (older, NONE);
+            } else if older == guess_of(index) {
+                self.pairs[spot] = (newer, NONE);
+            }
+        }
+    }
+
+    /// Replaces the index of the record of a key by another.
+    #[inline(always)]
+    pub fn replace(&mut self, key: Key, from: usize, to: usize) {
+        let spot = spot_of(key, self.pairs.len());
+        if spot < self.pairs.len() {
+            let (newer, older) = self.pairs[spot];
+            if newer == guess_of(from) {
+                self.pairs[spot] = (guess_of(to), older);
+            } else if older == guess_of(from) {
+                self.pairs[spot] = (newer, guess_of(to));
+            }
         }
     }
 
@@ -79,12 +110,20 @@ impl Hints {
 
     // Makes this many pairs, and stores the guesses of the records anew.
     fn store(&mut self, keys: &[Key], count: usize) -> Result<(), NoMemory> {
-        self.pairs.resize(count, (0, 0))?;
+        self.pairs.reserve(count.saturating_sub(self.pairs.len()))?;
+        self.pairs.clear();
+        self.pairs.resize(count, (NONE, NONE))?;
         for (index, key) in keys.iter().enumerate() {
             self.note(*key, index);
         }
         Ok(())
     }
+}
+
+// An index as a guess.
+#[inline(always)]
+fn guess_of(index: usize) -> u32 {
+    index.min(NONE as usize) as u32
 }
 
 // The index of a key's pair among this number of pairs. Keys of one number in several tables have neighbouring pairs: a

@@ -79,9 +79,9 @@ impl Index {
         ensures capacity { OnOk result (HasRoomFor self.new.chains 1) }
     {
         self.chains.reserve(1)?;
-        match self.table.index(key) {
+        match self.table.guess(key) {
             Some(index) => Ok(index),
-            None => self.table.add(key, None),
+            None => self.table.find_or_add(key),
         }
     }
 

@@ -1,5 +1,5 @@
 //! Access to the records by key, or by an index that was found before.
-ghost use Rattle.std.specs.Prelude.{◌≡◌, ℕ, None, Some, true, false, cond, IfOk, OnOk, OnErr};
+ghost use Rattle.std.specs.Prelude.{◌≡◌, ℕ, None, Some, true, false, cond, ◌⊎◌, IfSome, IfOk, OnErr};
 ghost use Rattle.std.specs.Option.{option_copied};
 ghost use Rattle.sgt_model.specs.Contents.{Key, key_eq};
 ghost use Rattle.sgt_records.specs.declared.written.Written.TheVariants.{Nothing};
@@ -24,6 +24,26 @@ impl Table {
             return Some(older);
         }
         self.search(key)
+    }
+
+    /// The index of the key's record by its guesses. The map is searched only if both guesses are taken: then an earlier record
+    /// may have the hash of the key.
+    #[inline(always)]
+    pub fn guess(&self, key: Key) -> Option<usize>
+        ensures { IfSome result (λ index. index_in self.now key ≡ Some index) }
+    {
+        let (newer, older) = self.hints.guesses(key);
+        if self.is_at(key, newer) {
+            return Some(newer);
+        }
+        if self.is_at(key, older) {
+            return Some(older);
+        }
+        if older < self.keys.len() {
+            self.search(key)
+        } else {
+            None
+        }
     }
 
     // Whether there is a record with this index, and it is the key's.
@@ -72,25 +92,31 @@ impl Table {
         self.records[index] = given;
     }
 
-    /// Adds the record of a key that has none, with a committed value, or none, and nothing written above it. It returns the
-    /// record's index. `NoMemory` if an allocation failed.
-    pub fn add(&mut self, key: Key, committed: Option<i64>) -> Result<usize, NoMemory>
-        requires absent { index_in self.old key ≡ None }
-        ensures added { OnOk result ((k : Key) → record_in self.new k
-            ≡ cond (key_eq key k) (Some (record { committed = committed; written = Nothing })) (record_in self.old k)) }
+    /// The index of the key's record. If it has none, one search of the map adds one, with no committed value and nothing
+    /// written. `NoMemory` if an allocation failed.
+    #[inline(never)]
+    pub fn find_or_add(&mut self, key: Key) -> Result<usize, NoMemory>
+        ensures records { (k : Key) → (record_in self.new k ≡ record_in self.old k)
+            ⊎ ((record_in self.old k ≡ None) × (record_in self.new k ≡ Some (record { committed = None; written = Nothing }))) }
         ensures index { IfOk result (λ index. index_in self.new key ≡ Some index) }
         ensures stay { (k : Key) (p : ℕ) → index_in self.old k ≡ Some p → index_in self.new k ≡ Some p }
-        ensures others { OnOk result ((k : Key) → key_eq key k ≡ false → index_in self.new k ≡ index_in self.old k) }
+        ensures others { (k : Key) → key_eq key k ≡ false → index_in self.new k ≡ index_in self.old k }
         ensures unchanged { OnErr result ((k : Key) → record_in self.new k ≡ record_in self.old k) }
     {
         let index = self.records.len();
         self.records.reserve(1)?;
         self.keys.reserve(1)?;
         self.hints.reserve(self.keys.as_slice())?;
-        self.indices.insert(key, index)?;
+        if let Some(earlier) = self.indices.insert(key, index)? {
+            // Its key is there, so this allocates nothing.
+            if self.indices.insert(key, earlier).is_err() {
+                unreachable!()
+            }
+            return Ok(earlier);
+        }
         self.hints.note(key, index);
         self.records.push_reserved(Record {
-            committed,
+            committed: None,
             written: Written::Nothing,
         });
         self.keys.push_reserved(key);
@@ -111,6 +137,7 @@ impl Table {
             unreachable!()
         }
         self.indices.remove(&key);
-        self.hints.note(moved, index);
+        self.hints.drop_index(key, index);
+        self.hints.replace(moved, last, index);
     }
 }

@@ -1,6 +1,5 @@
-use Rattle.std.proofs.Common.{◌≡◌, Some}
 use Rattle.sgt_records.specs.Tables.{record_in}
-use Rattle.sgt_records.proofs.RecordSlots.{chains_dropped, committed_dropped, index_dropped}
+use Rattle.sgt_records.proofs.RecordSlots.{index_dropped}
 use Rattle.sgt_records.proofs.index.Index.forget.Goals as goal
 
 pub invariant_of-self : goal.invariant_of-self

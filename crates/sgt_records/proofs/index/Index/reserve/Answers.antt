@@ -1,4 +1,4 @@
-use Rattle.std.proofs.Common.{rules, ◌≡◌, ℕ, refl, ap, None}
+use Rattle.std.proofs.Common.{◌≡◌, ℕ, refl, ap}
 use Rattle.slab.specs.Slab as slab
 use Rattle.sgt_records.specs.Tables.{record_in}
 use Rattle.sgt_records.proofs.RecordSlots.{index_alike, index_added}
@@ -23,8 +23,7 @@ invariant_of-self-in-None c =
     let records = record_in c.args.self.now.table in
     let chains = c.args.self.now.chains in
     let same : (p : ℕ) → slab.get c.reserve.new.self p ≡ slab.get chains p = λ p. ap (λ s. slab.get s p) c.reserve.ensures.rest_kept in
-    let absent : records c.args.key ≡ None = search rules in
     record {
-      is_index = index_added records (record_in c.add.new.self) chains c.reserve.new.self c.args.key _ absent refl refl same
-          c.args.self.now.is_index c.add.result c.add.ensures.added c.add.ensures.unchanged;
+      is_index = index_added records (record_in c.find_or_add.new.self) chains c.reserve.new.self _ refl refl same
+          c.find_or_add.ensures.records c.args.self.now.is_index;
     }
