@@ -5,6 +5,9 @@ use std::alloc::Global;
 /// The fewest pairs of guesses, if there are any.
 const FEWEST: usize = 64;
 
+/// Fewer pairs than these become four times as many, not twice: a short run stores its guesses anew less often.
+const MANY: usize = 16_384;
+
 /// No guess: it is above all indices that are guessed.
 const NONE: u32 = u32::MAX;
 
@@ -101,10 +104,11 @@ impl Hints {
         self.grow(keys)
     }
 
-    // Doubles the capacity, and stores the guesses of the records anew.
+    // Takes more capacity, and stores the guesses of the records anew.
     #[inline(never)]
     fn grow(&mut self, keys: &[Key]) -> Result<(), NoMemory> {
-        let count = (self.pairs.len() * 2).max(FEWEST);
+        let times = if self.pairs.len() < MANY { 4 } else { 2 };
+        let count = (self.pairs.len() * times).max(FEWEST);
         self.store(keys, count)
     }
 

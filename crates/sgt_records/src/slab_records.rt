@@ -18,8 +18,8 @@ use std::alloc::Global;
 ///
 /// Costs:
 ///
-/// - `top`, `reserve` and `committed` search the map of indices once, and twice if `reserve` finds no record. `write`, which
-///   comes after `reserve`, does not. All read only that key's chain.
+/// - `top`, `reserve` and `committed` search the map of indices at most once; `reserve` twice if it adds a record whose guesses
+///   were both taken. `write`, which comes after `reserve`, does not. All read only that key's chain.
 /// - `settle` and `undo` go once through the list of live writes, which has the indices of the records.
 /// - `forget` searches the map once, and twice more if the record is dropped. It drops none while a write is live, since live
 ///   writes have indices.
