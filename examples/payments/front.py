@@ -81,9 +81,7 @@ class Front:
         asked: dict[Client, list[Line]] = {}
         while not asked or (len(asked) < self.asked and self.now < self.until):
             self.poll.modify(self.listeners[0], select.EPOLLIN * (len(self.clients) < self.most))
-            if asked:
-                time.sleep(0.0005)  # who of them has sent more lines would end a longer wait at once
-            ready, self.now = self.poll.poll(0 if asked else self.idle / 4, AT_ONCE), time.monotonic()
+            ready, self.now, had = self.poll.poll(self.until - self.now if asked else self.idle / 4, AT_ONCE), time.monotonic(), len(asked)
             for number, _ in ready:
                 if client := self.clients.get(number):
                     if client not in asked and (lines := self.go_on(client)):
@@ -92,6 +90,8 @@ class Front:
                     raise EOFError
                 else:
                     self.accept(self.listeners[0])
+            if asked and len(asked) == had:
+                time.sleep(0.0005)  # for somebody else than who has sent more lines already
             if self.now >= self.swept + self.idle / 4:
                 self.sweep()
         return asked
