@@ -17,6 +17,7 @@ import contextlib
 import fcntl
 import hashlib
 import json
+import logging
 import marshal
 import multiprocessing
 import os
@@ -46,7 +47,7 @@ ADJUSTING = str(TESTS / "helpers" / "noting_fsync.py")
 sys.path[:0] = [str(PAYMENTS), str(TESTS.parent / "bench" / "payments")]
 import partitions as partition  # noqa: E402
 from audit import ask  # noqa: E402
-from bank import OUTCOME, ROW, Bank, Unusable, load_procedures  # noqa: E402
+from bank import OUTCOME, ROW, Bank, Unusable, columns, load_procedures  # noqa: E402
 from chain import Chain, seal_batch  # noqa: E402
 from file_journal import FileJournal  # noqa: E402
 from front import AT_ONCE, FRONTS, OTHER_FILES, PART, Front  # noqa: E402
@@ -73,8 +74,8 @@ class Server:
         )
         self.said = []
         for line in self.process.stdout:
-            if found := re.match(r"serving on port (\d+) after call (\d+)", line):
-                self.port, self.seq = int(found[1]), int(found[2])
+            if found := re.match(r"serving on port (\d+) after call (\d+), .*, (leads|follows another server)\n", line):
+                self.port, self.seq, self.leads = int(found[1]), int(found[2]), found[3] == "leads"
                 return
             self.said.append(line)
         raise Differs(f"the server did not start: {self.process.communicate()[1]}")
@@ -267,6 +268,11 @@ def replies():
         no_request = [b"", b"7", b"[]", b'{"id":1}', b'{"balance":"x"}', b'{"balance":1.0}', b'{"balance":true}', b'{"day":1}', b"\xff", b'{"balance":1} x', b'{"balance":1}{"balance":1}', b'{"balance":1000000000000000}', b'{"balance":1,"balance":2}', b'{"balance":1,"balance":1}']
         if any("error" not in reply for reply in server.ask(*no_request)):
             raise Differs("a line that is no request was taken")
+        why = {b"{'id':1}": "a line is one JSON object with keys, or a list of such objects", b'{"id":1,"form":2}': "no request has the keys id, form"}
+        why |= {b'{"balance":1.5}': "a value is a whole number of at most fifteen digits", b'{"balance":1,"balance":1}': "no request has the keys balance, balance"}
+        why |= dict.fromkeys((b'{"amount":1,"open":5}', b'{"health":true}'), "only administrators may ask for this, at their own socket")
+        same("what is wrong", [{"error": it} for it in why.values()], server.ask(*why))
+        same("whether it says that it leads", True, server.leads)
         same("the payments", [20, 21], [reply["id"] for reply in server.ask(pay(20, 2, 1, 1), pay(21, 2, 1, 1))])
         good, long = {"balance": 9, "has": 70}, {"error": f"a line has at most {LONGEST} bytes"}
         lines = [b'{"balance":9' + b" " * length + b"}" for length in (LONGEST - 13, LONGEST - 12, 0, 10**6, 0)]
@@ -285,13 +291,15 @@ def page():
     """What the page shows of a client, of `show` and of `verify` is what comes, but for the day."""
     blocks = (PAYMENTS / "README.md").read_text().split("```")[1::2]
     (client,), (operator,) = ([it.strip().splitlines() for it in blocks if f"\n$ {word}" in it] for word in ("nc 127.0.0.1", "examples/payments/payments.py show"))
+    (held,) = (it.strip().splitlines() for it in blocks if it.startswith("\n{"))
     with scratch() as folder, Server("serve", folder / "j") as server:
         asked(server, [(json.loads(request), json.loads(reply)) for request, reply in zip(client[1::2], client[2::2])])
         came = (run("show", folder / "j")[1] + run("verify", folder / "j")[1]).splitlines()
         wanted = [re.escape(it).replace(re.escape(", .., "), ".*") for it in operator if not it.startswith("$")]
         if len(came) != len(wanted) or not all(map(re.fullmatch, [re.sub(r"arg=\d+", r"arg=\\d+", it) for it in wanted], came)):
             raise Differs(f"the page shows {wanted}, and what comes is {came}")
-    return f"{len(client) // 2} requests, {len(came)} lines"
+        asked(server, [(json.loads(request), json.loads(reply)) for request, reply in zip(held[::2], held[1::2])])
+    return f"{(len(client) + len(held)) // 2} requests, {len(came)} lines"
 
 
 def administration():
@@ -310,6 +318,7 @@ def administration():
             figures = ask(admin, "figures")
             same("the figures", {"seq": 2, "records": 3}, {key: figures[key] for key in ("seq", "records")})
             same("an unknown word", [{"error"}] * 2, [set(ask(admin, word)) for word in ("nothing", "promote")])
+            same("a word without a number", {"error": "a value is a whole number of at most fifteen digits"}, ask(admin, "day", "x"))
             same("a second server", 1, run(*words)[0])
             same("health beside a second server", "ok", ask(admin, "health")["health"])
         with Server(*words) as server:  # the first one was killed, and left its socket
@@ -493,11 +502,11 @@ def lists():
     """A line may be a list of requests, which is answered by a list, in order; each request is a transaction of its own."""
     with scratch() as folder, Server("serve", folder / "j", "--accounts", 3) as server:
         request, has = {"balance": 1}, {"balance": 1, "has": 100_000}
-        error = server.ask(b"x")[0]
+        error, not_here = server.ask(b"x", {"rows": True})
         paid = {"id": 1, "paid": True, "from_has": 99_995, "to_has": 100_005}
         wanted = [
             ([request], [has]),
-            ([pay(1, 1, 2, 5), {"balance": 7}, [request], 7, {"rows": True}, pay(1, 1, 2, 5)], [paid, {"balance": 7, "refused": "there is no such account"}, error, error, error, paid]),
+            ([pay(1, 1, 2, 5), {"balance": 7}, [request], 7, {"rows": True}, pay(1, 1, 2, 5)], [paid, {"balance": 7, "refused": "there is no such account"}, error, error, not_here, paid]),
             ([], error),
             (request, {"balance": 1, "has": 99_995}),
         ]
@@ -607,7 +616,7 @@ def second_server():
                 same("a reply", b'{"balance": 1, "has": 100000}\n', link.recv(100))
             same("fronts without clients", [], [one for one, were in zip(fronts, before) if len(os.listdir(f"/proc/{one}/fd")) == were])
             status, out, error = run("serve", folder / "1", "--port", port)
-            if (status, out) != (1, "") or "Address already in use" not in error:
+            if (status, out) != (1, "") or not re.fullmatch(rf"payments: .*Address already in use.*: port {port}\n", error):
                 raise Differs(f"a second server: {status} {out} {error}")
         for number in range(5):
             wait_until(lambda: is_free(None, port), "a port that is free")
@@ -617,7 +626,7 @@ def second_server():
             for process in both:
                 process.kill()
             errors = [process.communicate(timeout=SECONDS)[1] for process in both]
-            same("servers that serve, and that say why not", (1, 1), (sum(map(bool, said)), sum("in use" in error for error in errors)))
+            same("servers that serve, and that say why not", (1, 1), (sum(map(bool, said)), sum(f": port {port}\n" in error for error in errors)))
 
 
 class Load:
@@ -1360,7 +1369,7 @@ def leaving_clients():
                 calls = unpack_calls(marshal.loads(server.recv_bytes())[0])
                 same("the calls", [(front.numbers["balance"], account) for account in (1, 2, 3)], sorted(calls))
                 outcomes = [OUTCOME.pack(Kind.COMMITTED, 0, 1, 10 * account, *[0] * 7) for _, account in calls]
-                server.send_bytes(marshal.dumps((b"".join(outcomes), [], "")))
+                server.send_bytes(marshal.dumps(([it.tobytes() for it in columns(b"".join(outcomes), 1)], [], "")))
                 turn.join()
                 for number, client in ((1, first), (3, last)):
                     same(f"the reply to client {number}", b'{"balance": %d, "has": %d}\n' % (number, 10 * number), client.recv(1000))
@@ -1394,7 +1403,7 @@ def many_lines():
             threading.Thread(target=client.sendall, args=(part,), daemon=True).start()
         wait_until(lambda: len(select.select([it.link for it in front.clients.values()], (), (), 0)[0]) == count, "lines of all clients")
         asked = front.wait()
-        lines = sum(len(it) for _, it in asked)
+        lines = sum(map(len, asked.values()))
         if not 0 < lines <= AT_ONCE * PART / len(b'{"balance":1}'):
             raise Differs(f"the front has {lines} lines in memory")
     return f"{lines} of {count * 4_000} lines are heard at once"
@@ -1423,7 +1432,7 @@ def full_fronts():
         wait_until(lambda: front.accept(front.listeners[0]), "a client that is accepted")
         for client in clients:
             client.sendall(b'{"balance":1}\n' * 2)
-        heard = {client for _ in range(2) for client, _ in front.wait()}
+        heard = {client for _ in range(2) for client in front.wait()}
         same("clients that are heard, and that there are", (2, 2), (len(heard), len(front.clients)))
         front.drop(heard.pop())
         same("clients that are heard then, and that there are", (1, 2), (len(front.wait()), len(front.clients)))
@@ -1583,6 +1592,13 @@ def promotion():
             raise Differs("a primary that was replaced has appended a batch")
         new.append(['["day", 20001]'])
         same("the last batch", [4, 2, [["day", 20_001]]], unseal(journal.batches[-1]))
+        said, listens = [], logging.Handler()
+        listens.emit = lambda record: said.append(record.getMessage())
+        logging.getLogger("payments").addHandler(listens)
+        for _ in range(2):
+            (last := Chain(Store(folder / "last"), journal, opening, "last")).follow()
+        same("what one says that follows, and then leads", ["leads now, after call 2"] * 2, said)
+        same("whether it leads", True, last.leads)
 
 
 # A program of two servers that speak to a journal. The first one leads, and says nothing for as long as a lease: then the second one leads,
@@ -1600,19 +1616,22 @@ for _ in range(2):  # again, as after a reply that was lost
 with BEAT:  # so no lease is renewed
     while not new.lead():
         time.sleep(0.1)
+def append():
+    try:
+        old.append(2, b"old")
+        print("safe")
+    except Fenced:
+        print("fenced")
+append()
 for number in (2, 3):
     new.append(number, b"new")
 new.stored("new", 3, 4)
-try:
-    old.append(2, b"old")
-    print("safe")
-except Fenced:
-    print("fenced")
+append()
 """
 
 
 def fences(kind):
-    """A primary that was replaced is fenced, also where the batches of the new one are deleted already."""
+    """A primary that was replaced is fenced, before the new one has appended anything, and where its batches are deleted already."""
     if why := kind.missing():
         return f"left out: {why}"
     for _ in range(10):  # on a slow machine the journal may be late, or the second server be replaced, too
@@ -1621,7 +1640,7 @@ def fences(kind):
             ran = subprocess.run(words, capture_output=True, text=True, timeout=SECONDS, check=False)
         if ran.stdout:
             break
-    same("the next batch of a primary that was replaced", ("fenced\n", ""), (ran.stdout, ran.stderr))
+    same("the next batch of a primary that was replaced", ("fenced\n" * 2, ""), (ran.stdout, ran.stderr))
     return None
 
 
@@ -1631,7 +1650,7 @@ def fenced_over_etcd():
 
 
 def fenced_over_redis():
-    """A stream refuses the numbers of its past, too."""
+    """A batch asks who leads. A stream refuses the numbers of its past, too."""
     return fences(Redis)
 
 
@@ -1668,6 +1687,36 @@ def asked_node():
         wait_until(asks_leader, "a leader that is asked")
         etcd.kill(wait_until(lambda: [it for it in [etcd.leader()] if it is not None], "a leader")[0])
         wait_until(asks_leader, "the next leader that is asked")
+
+
+def silent_nodes():
+    """While a node of etcd does not answer, `health` names it: clients see nothing of that."""
+    if why := Etcd.missing():
+        return f"left out: {why}"
+    with scratch() as folder, running(Etcd, folder) as etcd:
+        words = ("serve", folder / "j", "--journal", etcd.address)
+
+        def health():
+            return ask(folder / "j" / "admin", "health")["health"]
+
+        with started(*words, python=etcd.python, **adjusted(**NEVER)) as server:
+            wait_until(lambda: health() == "ok", "a server that is well")
+            etcd.kill(2)
+            wait_until(lambda: health() == f"no word of the node 127.0.0.1:{etcd.ports[2]} of etcd", "the name of the node that is dead")
+            wait_until(lambda: "paid" in server.ask(pay(1, 1, 2, 5))[0], "a payment")
+            etcd.start(2)
+            wait_until(lambda: health() == "ok", "a server that is well again")
+    return None
+
+
+def missing_modules():
+    """A start whose Python lacks the module of a journal says of which package of Debian it is, and for which Python."""
+    for scheme, package in (("etcd", "etcd3"), ("redis", "redis"), ("postgresql", "psycopg2")):
+        words = [sys.executable, "-S", PAYMENTS / "payments.py", "serve", "none", "--journal", f"{scheme}://127.0.0.1:1/bank"]
+        ran = subprocess.run(words, capture_output=True, text=True, check=False, env={**os.environ, "GLIBC_TUNABLES": ""})
+        wanted = rf"payments: No module named '\w+', in {re.escape(sys.executable)}. Debian has it for /usr/bin/python3, in python3-{package}\n"
+        if ran.returncode != 1 or not re.fullmatch(wanted, ran.stderr):
+            raise Differs(f"{scheme}: wanted {wanted}, came {ran.stderr}")
 
 
 # What ends a server that a slow machine has stalled for longer than its lease: it is started again.
@@ -1792,6 +1841,7 @@ def ends_while_away(kind):
     with scratch() as folder, running(kind, folder) as journal, contextlib.ExitStack() as stack:
         group = Group(journal, folder, stack, LEASE=SECONDS)  # so that the primary stays it
         primary = group.primary()
+        same("who says that it leads", [number == primary for number in range(3)], [it.leads for it in group.servers])
         shutil.copytree(PAYMENTS / "procedures", folder / "other")
         (folder / "other" / "note.json").unlink()
         words = ("serve", folder / "new", "--journal", journal.address, "--procedures", folder / "other")
@@ -2249,7 +2299,7 @@ def main():
     cases += [full_disk, failing_fsync, large_snapshots, pieces, deletions, failed_snapshot, little_space, renewals, huge_pages, begun_snapshots]
     cases += [jumping_clock, other_procedures, bad_procedures]
     cases += [killed_fronts, vanished_clients, leaving_clients, slow_clients, many_lines, greedy_clients, full_fronts, idle_clients]
-    cases += [promotion, fenced_over_etcd, fenced_over_redis, fenced_over_postgresql, forks, asked_node, over_etcd, dying_nodes, ended_while_away, partitions, over_redis, hung_redis, forgetful_redis, redis_replicas, over_postgresql, forgetful_postgresql, cut_off_postgresql, postgresql_standby, crash_test]
+    cases += [promotion, fenced_over_etcd, fenced_over_redis, fenced_over_postgresql, forks, asked_node, silent_nodes, missing_modules, over_etcd, dying_nodes, ended_while_away, partitions, over_redis, hung_redis, forgetful_redis, redis_replicas, over_postgresql, forgetful_postgresql, cut_off_postgresql, postgresql_standby, crash_test]
     return run_cases([case for case in cases if not names or case.__name__ in names], of="payments")
 
 

@@ -57,10 +57,9 @@ def show(words: argparse.Namespace, journal: Journal) -> None:
 
 def verify(words: argparse.Namespace, journal: Journal) -> None:
     """Replays the journal in a second engine, and compares every row with each snapshot, and with those of its server, if one runs."""
-    last, wanted, first, store = sys.maxsize, "", 0, Store(words.folder)
+    last, wanted, first, snapshots = sys.maxsize, "", 0, set((store := Store(words.folder)).numbers())
     with contextlib.suppress(FileNotFoundError, ConnectionRefusedError):
         last, wanted, _ = ask(words.admin or words.folder / "admin", "rows").values()
-    snapshots = set(store.numbers())
     for bank, number, calls in batches(store, journal):
         first = first or bank.seq + 1
         if number in snapshots and (lambda it: (it.seq, it.rows()))(store.load(number)) != (bank.seq, bank.rows()):

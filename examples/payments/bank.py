@@ -41,7 +41,7 @@ class Procedure:
         self._list = f", {json.dumps(reported)}: " if isinstance(reported, str) else ""  # of all answers, under one key
         keys = [json.dumps(key).replace("%", "%%") + ": %d" for key in [*(self.request or [""])[:1], *([] if self._list else reported)]]
         done = f", {json.dumps(file['done'])}: true".replace("%", "%%") if "done" in file else ""
-        self._begin, self._most = "{" + keys[0], 8 if self._list else len(keys) - 1  # how many answers a client is told
+        self._begin, self.most = "{" + keys[0], 8 if self._list else len(keys) - 1  # how many answers a client is told
         self._reported = [self._begin + done + "".join([", " + key for key in keys[1 : count + 1]]) + "%s}" for count in range(len(keys))]
         self._reasons = {int(code): reason for code, reason in file.get("refused", {}).items()}
         self._remembers: bool = file.get("remembers", False)  # that a first answer -N is a refusal by code N
@@ -57,8 +57,17 @@ class Procedure:
         if code or kind != COMMITTED:  # a follower has no procedure that writes
             why = {"refused": self._reasons.get(code, f"code {code}")} if code else {"error": "this server follows another one"}
             return self._begin % first + ", " + json.dumps(why)[1:-1] + age + "}"
-        answers = outcome[3 : 3 + min(count, self._most)]
+        answers = outcome[3 : 3 + min(count, self.most)]
         return self._reported[0] % (first, self._list + str([*answers]) + age) if self._list else self._reported[len(answers)] % (first, *answers, age)
+
+
+def columns(outcomes: bytes, most: int) -> list[memoryview]:
+    """The parts of packed outcomes that clients get: of all outcomes the kinds, the codes, how many answers, and so many of the answers.
+
+    Of a payment they are 28 bytes of 384. To send all of them took a third of what the server does beside the engine.
+    """
+    short, long = memoryview(outcomes).cast("I"), memoryview(outcomes).cast("q")
+    return [*[short[at :: OUTCOME.size // 4] for at in (2, 5, 12)], *[long[at :: OUTCOME.size // 8] for at in range(8, 8 + most)]]
 
 
 def load_procedures(folder: pathlib.Path) -> dict[str, Procedure]:
@@ -83,6 +92,7 @@ class Bank:
         self.seq, self.texts = seq, texts
         self.noted: Optional[deque[bytes]] = None  # what runs is added to it, for a bank that comes after this one
         self.engine, self.records = Engine.bare(1, 4_000_000_000, releases=True), len(rows) // ROW.size  # as the last cut has left them
+        self.rows = self.engine.rows_bytes  # of which comes the committed database: 24 bytes a row
         self.engine.put_bytes(rows)
         self.numbers = {name: self.engine.procedure(text) for name, text in sorted(texts.items())}
 
@@ -108,10 +118,6 @@ class Bank:
             for number, (call, written) in enumerate(zip(part, [*self.run(packed, part)[1], None]), first):
                 if call is not written:
                     raise Unusable(f"call {number} of the journal, {call}, does not commit")
-
-    def rows(self) -> bytes:
-        """The committed database: 24 bytes a row."""
-        return self.engine.rows_bytes()
 
     def day(self) -> Optional[int]:
         """The day, counted from 1970, or None before the first, or if these procedures have no days."""

@@ -1,6 +1,7 @@
 """The bank that the batches of a journal make: replay, appends and promotion, whatever the journal is."""
 
 import json
+import logging
 import time
 from typing import Any, Callable, Sequence, Union, cast
 
@@ -45,13 +46,12 @@ class Chain:
         """With `renews` the procedures of the opening may be others than those of the journal, if this server leads."""
         self.store, self.journal, self.opening, self.server, self.renews = store, journal, opening, server, renews
         self.leads, self.ends, self.trouble, self.seq = False, False, "", 0  # the trouble is of a follower with the journal
-        self.number = max(store.numbers(), default=0)
-        self.bank = store.load(self.number)
-        self.fresh = self._next = time.monotonic()  # when the bank was as the journal; when to read on
+        self.number, self.fresh = max(store.numbers(), default=0), time.monotonic()  # when the bank was as the journal
+        self.bank, self._next = store.load(self.number), self.fresh  # when to read on
 
     def start(self) -> None:
         """Recovers. Returns once the bank is as the journal was, and has this server's procedures."""
-        self.stored(self.number)
+        self.insist(lambda: self.journal.stored(self.server, self.number, self.number + 1))  # after a kill it may not know of the last snapshot
         while self.insist(self._lead_or_read) or not (self.bank.texts or self.ends):  # the primary has not begun yet
             time.sleep(PAUSE)
         self._compare()
@@ -92,6 +92,8 @@ class Chain:
         try:
             self._lead_or_read()
             self._compare()
+            if self.leads:
+                logging.getLogger("payments").warning("leads now, after call %d", self.seq)
         except Away as why:
             self.trouble = f"the journal is away: {why}"
         self._next = time.monotonic() + PAUSE
@@ -124,7 +126,3 @@ class Chain:
             number, data = self.number + 1, seal_batch(self.number + 1, self.seq, part)
             self.insist(lambda: self.journal.append(number, data))
             self.number, self.seq = number, self.seq + (len(part) if isinstance(part, list) else 0)
-
-    def stored(self, number: int) -> None:
-        """Has the journal delete what is not needed any more, as there is a snapshot after this batch."""
-        self.insist(lambda: self.journal.stored(self.server, number, self.number + 1))

@@ -25,6 +25,13 @@ REFUSED = {grpc.StatusCode[it] for it in ("INVALID_ARGUMENT", "FAILED_PRECONDITI
 OPTIONS = (("grpc.max_receive_message_length", -1), ("grpc.max_reconnect_backoff_ms", 500), ("grpc.enable_http_proxy", 0))
 
 
+def rank(node: str) -> int:
+    """0 if this node does not answer soon, and 2 if it leads the others, as far as it knows. Else 1."""
+    with contextlib.suppress(grpc.RpcError), grpc.insecure_channel(node, OPTIONS) as channel:
+        return (lambda it: 1 + (it.leader == it.header.member_id))(rpc.MaintenanceStub(channel).Status(rpc.StatusRequest(), timeout=TRY / 5))
+    return 0
+
+
 class Nodes:
     """The nodes of etcd: the one that leads them is asked until it fails, and then another one. By the leader a batch is safe sooner."""
 
@@ -36,25 +43,18 @@ class Nodes:
         """What etcd replies to a request. `Away` if no node does."""
         for left in range(len(self.nodes), 0, -1):  # so many have not failed
             if not self._channel:
-                self.nodes = sorted(self.nodes[:left], key=self._leads, reverse=True) + self.nodes[left:]
+                self.nodes = sorted(self.nodes[:left], key=rank, reverse=True) + self.nodes[left:]
                 self._channel = grpc.insecure_channel(self.nodes[0], OPTIONS)
                 self._calls = {**vars(rpc.KVStub(self._channel)), **vars(rpc.LeaseStub(self._channel))}
             try:
-                if name == "LeaseKeepAlive":  # a stream of requests, and of replies
-                    return next(self._calls[name](iter([request]), timeout=TRY))
-                return self._calls[name](request, timeout=TRY)
+                is_stream, ask = name == "LeaseKeepAlive", self._calls[name]  # of requests, and of replies
+                return next(ask(iter([request]), timeout=TRY)) if is_stream else ask(request, timeout=TRY)
             except grpc.RpcError as error:
                 why = f"{error.code().name}: {error.details()}"
                 if error.code() in REFUSED:
                     raise Unusable(f"etcd: {why}") from None
             self._channel, self.nodes = self._channel.close(), self.nodes[1:] + self.nodes[:1]
         raise Away(f"etcd: {why}")
-
-    def _leads(self, node: str) -> bool:
-        """Whether this node leads the others, as far as it knows and says so soon."""
-        with contextlib.suppress(grpc.RpcError), grpc.insecure_channel(node, OPTIONS) as channel:
-            return (lambda it: bool(it.leader == it.header.member_id))(rpc.MaintenanceStub(channel).Status(rpc.StatusRequest(), timeout=TRY / 5))
-        return False
 
 
 class EtcdJournal:
@@ -98,6 +98,10 @@ class EtcdJournal:
     def check(self) -> None:
         if [it.create_revision for it in self._found(self._key("leader"))] != [self._term]:
             raise Fenced("etcd: another primary leads")
+
+    def silent(self) -> str:
+        """The nodes that do not answer, for `health`: one more may be one too many."""
+        return "; ".join(f"no word of the node {it} of etcd" for it in self.nodes if not rank(it))
 
     def read(self, number: int) -> list[bytes]:
         return from_number(number, [it.value for it in self._found(self._batch(number), range_end=self._key("batch0"), limit=AT_ONCE)])

@@ -10,8 +10,6 @@ from typing import Any, BinaryIO
 from bank import Unusable
 from journal import Missing, is_whole, seal, store, sync_names
 
-SHORTEST = len(seal(b'[1, 1, [["a"]]]')) + 2  # bytes of a batch that has a call
-
 
 class FileJournal:
     """The batches of one server, who leads always: its folder is its own."""
@@ -40,7 +38,8 @@ class FileJournal:
         begin = f"cut off {len(tail)} bytes after batch {number}: "
         if tail.decode("latin-1").isprintable():
             return begin + "the beginning of a batch that was not safe, and that nobody was told of" if tail else ""
-        path, most = self.folder / f"{number:015}-{time.time_ns()}.tail", (len(tail) + 1) // SHORTEST
+        # The divisor is the length of a batch that has a call.
+        path, most = self.folder / f"{number:015}-{time.time_ns()}.tail", (len(tail) + 1) // (len(seal(b'[1, 1, [["a"]]]')) + 2)
         store(path, tail)
         return begin + f"if power was lost, a batch that nobody was told of; else damage to at most {most} that were safe. Kept in {path}"
 
@@ -56,16 +55,15 @@ class FileJournal:
     def read(self, number: int) -> list[bytes]:
         """The batches from this one on of the file that has it."""
         paths = self.paths()
-        firsts = [int(path.stem) for path in paths]
-        at = bisect_right(firsts, number) - 1
+        at = bisect_right(paths, self.folder / f"{number:015}.batches") - 1
         if at < 0 and paths:
-            raise Missing(f"{self.folder}: batch {number} is missing; the first one is {firsts[0]}")
+            raise Missing(f"{self.folder}: batch {number} is missing; the first one is {int(paths[0].stem)}")
         if at < 0:
             return []
-        lines, tail = whole_lines(paths[at])
-        if at + 1 < len(paths) and (tail or firsts[at] + len(lines) != firsts[at + 1]):
+        first, (lines, tail) = int(paths[at].stem), whole_lines(paths[at])
+        if at + 1 < len(paths) and (tail or first + len(lines) != int(paths[at + 1].stem)):
             raise Unusable(f"{paths[at]}: the end of this file is damaged, or gone")
-        return lines[number - firsts[at] :]
+        return lines[number - first :]
 
     def stored(self, server: str, number: int, after: int) -> None:
         """Goes on in a new file, and deletes the files of which no batch is needed. Threads do that, as a large one takes a quarter of a second."""
@@ -83,8 +81,7 @@ class FileJournal:
         """Makes the file's name safe, and then the link to it. A start compares them: of a file that is gone nothing else would tell."""
         self._file = open(path, "ab")
         sync_names(self.folder)
-        new = self._newest.with_suffix(".new")
-        new.unlink(missing_ok=True)  # left by a server that was killed here
+        (new := self._newest.with_suffix(".new")).unlink(missing_ok=True)  # left by a server that was killed here
         new.symlink_to(path.name)
         new.rename(self._newest)
         sync_names(self.folder)

@@ -109,10 +109,8 @@ def store(path: pathlib.Path, *parts: bytes) -> None:
 def sync_names(folder: pathlib.Path) -> None:
     """Makes the names of a folder's files safe."""
     names = os.open(folder, os.O_RDONLY)
-    try:
-        os.fsync(names)
-    finally:
-        os.close(names)
+    os.fsync(names)  # if it fails the program ends, or the copy of it that stores a snapshot
+    os.close(names)
 
 
 class Store:

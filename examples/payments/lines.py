@@ -12,10 +12,11 @@ from sgt import LEAST, MOST
 
 LONGEST = 10_000  # bytes of a line
 TOO_LONG = f'{{"error": "a line has at most {LONGEST} bytes"}}'
-NO_REQUEST = '{"error": "no JSON object with the keys of a procedure and whole numbers of at most fifteen digits"}'
+NO_REQUEST = '{"error": "a line is one JSON object with keys, or a list of such objects"}'
+NO_NUMBERS, NOT_HERE = "a value is a whole number of at most fifteen digits", "only administrators may ask for this, at their own socket"
 NO_RIGHT = '{"error": "no right to this"}'
 # A value, and where it ends: three times as fast as `json.loads`. An object is a tuple of pairs, as it may have a key twice.
-read_json = json.JSONDecoder(object_pairs_hook=tuple).raw_decode
+read_json = json.JSONDecoder(object_pairs_hook=tuple).scan_once
 Rights = Optional[dict[str, list[list[int]]]]  # by "pay" and "read": from which account to which; None if all is allowed
 Tokens = Optional[dict[str, Rights]]  # the rights of clients by the SHA-256 of their tokens; None if they need none
 
@@ -26,10 +27,10 @@ Line = Union[Request, list[Request]]  # a list of requests is answered by a list
 
 
 class Client:
-    """A client: the beginning of a line, replies that it has not taken yet, when its last whole line came, and what it may ask for."""
+    """A client: the beginning of a line, replies that it has not taken yet, whether it is waited for, when its last whole line came, its rights."""
 
     def __init__(self, link: Any, since: float, rights: Rights) -> None:
-        self.link, self.heard, self.unsent, self.since, self.rights = link, b"", b"", since, rights
+        self.link, self.heard, self.unsent, self.waits, self.since, self.rights = link, b"", b"", False, since, rights
 
 
 class Reader:
@@ -37,6 +38,8 @@ class Reader:
 
     def __init__(self, procedures: dict[str, Procedure], tokens: Tokens, is_for_administrators: bool) -> None:
         self.takes_words, self.tokens = is_for_administrators, tokens
+        # All that somebody may ask for: what is not among `requests` is for administrators.
+        self.known = {(*sorted(it),) for it in (*(it.request for it in procedures.values()), ["rows"], ["health"], ["figures"], ["day"])}
         self.first_rights: Rights = None if tokens is None or is_for_administrators else {}
         served = [it for it in procedures.values() if it.request and (is_for_administrators or not it.is_for_administrators)]
         orders = [(keys, it, [*map(keys.index, it.request)]) for it in served for keys in permutations(it.request)]
@@ -48,8 +51,8 @@ class Reader:
         if len(line) > LONGEST:
             return TOO_LONG
         try:
-            asked, end = read_json(text := line.strip().decode())
-        except (ValueError, RecursionError):
+            asked, end = read_json(text := line.strip().decode(), 0)
+        except (ValueError, StopIteration, RecursionError):
             return NO_REQUEST
         asked = asked if end == len(text) else None
         if type(asked) is list and asked:
@@ -72,7 +75,8 @@ class Reader:
             return NO_RIGHT if rights is not None and not may(rights, found[0], dict(pairs)) else (found[0], found[1](values))
         if self.takes_words and len(pairs) == 1 and isinstance(values[0], int) and LEAST <= values[0] <= MOST:
             return dict(pairs)
-        return NO_REQUEST
+        why = (NO_NUMBERS if self.takes_words else NOT_HERE) if (*sorted(keys),) in self.known else f"no request has the keys {', '.join(keys)}"
+        return json.dumps({"error": NO_NUMBERS if keys in self.requests else why})
 
 
 def may(rights: dict[str, list[list[int]]], procedure: Procedure, asked: dict[str, int]) -> bool:

@@ -29,10 +29,12 @@ def open_journal(words: argparse.Namespace) -> Journal:
     if not words.journal:
         return FileJournal(words.folder, words.keep)
     try:
-        kind = {"etcd": "EtcdJournal", "redis": "RedisJournal", "postgresql": "PostgresJournal"}[address.scheme]
+        kind, package = {"etcd": ("EtcdJournal", "etcd3"), "redis": ("RedisJournal", "redis"), "postgresql": ("PostgresJournal", "psycopg2")}[address.scheme]
         journal: Journal = getattr(import_module(f"{address.scheme}_journal"), kind)(address)
         return journal
-    except (ImportError, ValueError, KeyError) as why:
+    except ImportError as why:
+        raise Unusable(f"{why}, in {sys.executable}. Debian has it for /usr/bin/python3, in python3-{package}") from None
+    except (ValueError, KeyError) as why:
         raise Unusable(f"{words.journal}: no address of a journal here: {why}") from None
 
 
@@ -87,7 +89,7 @@ def main() -> None:
     try:
         {"serve": serve, "show": show, "verify": verify}[words.command](words, open_journal(words))
     except (Unusable, OSError, ValueError) as why:
-        sys.exit(f"payments: {why}")
+        sys.exit(f"payments: {why}" + f": port {words.port}" * ("Address already in use" in str(why)))
 
 
 if __name__ == "__main__":

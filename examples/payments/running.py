@@ -33,8 +33,8 @@ def run(server: Server, port: int, admin: pathlib.Path, begin: float) -> None:
     """Runs a server until SIGTERM or SIGINT."""
     with listen_at(admin) as listener:
         reduction.send_handle(server.fronts[-1], listener.fileno(), None)
-    seconds = time.perf_counter() - begin
-    print(f"serving on port {port} after call {server.chain.bank.seq}, started in {seconds:.2f} s, process {os.getpid()}", flush=True)
+    said = f"serving on port {port} after call {server.chain.bank.seq}, started in {time.perf_counter() - begin:.2f} s, process {os.getpid()}"
+    print(f"{said}, {'leads' if server.chain.leads else 'follows another server'}", flush=True)
     renewal: Optional[Renewal] = None
     while not server.chain.ends:
         at = time.monotonic()
@@ -98,4 +98,4 @@ class Renewal:
         except (EOFError, OSError, MemoryError, Unusable) as why:
             server.trouble = str(why) or "no snapshot, as the process that was to store it has ended"
             return self.old.cut()
-        chain.stored(self.number)
+        chain.insist(lambda: chain.journal.stored(chain.server, self.number, chain.number + 1))

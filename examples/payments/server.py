@@ -6,18 +6,17 @@ import marshal
 import select
 import time
 from concurrent.futures import Future, ThreadPoolExecutor
-from io import BytesIO
 from multiprocessing.connection import Connection, Pipe
 from typing import Any, Optional, Sequence
 
-from bank import NO_PROCEDURE, OUTCOME, ROW, Procedure
+from bank import NO_PROCEDURE, ROW, Procedure, columns
 from chain import PAUSE, Chain
 from sgt import pack_calls, unpack_calls
 
 QUICK = 0.0005  # seconds of an append. To have a thread make it costs less than it gains only where it takes longer
 IDLE = 0.1  # seconds without a request, after which the journal notes what is safe
 # What ran at once: the entries of calls that wrote, or none if nothing goes to the journal; which front asked, if one did; what it gets.
-Group = tuple[Optional[list[str]], Optional[Connection], bytes]
+Group = tuple[Optional[list[str]], Optional[Connection], Any]
 
 
 class Server:
@@ -66,19 +65,19 @@ class Server:
     def serve(self, fronts: Sequence[Connection]) -> None:
         """Runs what fronts have asked: packed calls, whose entries these are, and words to the server itself."""
         asked = [(front, *marshal.loads(front.recv_bytes())) for front in fronts]
-        calls = b"".join([calls for _, calls, _, _ in asked])
-        outcomes = BytesIO(self.run(calls, [it for _, _, entries, _ in asked for it in entries]))
+        outcomes, at = self.run(b"".join([it[1] for it in asked]), [it for _, _, entries, *_ in asked for it in entries]), 0
+        answered = columns(outcomes, max([it[4] for it in asked])) if outcomes else []
         self.forget()
         # What a follower adds to a reply: payments that were acknowledged later may be missing in it.
         age = "" if self.chain.leads else f', "seconds_old": {time.monotonic() - self.chain.fresh:.3f}'
-        for front, _, entries, words in asked:
+        for front, _, entries, words, _ in asked:
             if words:
                 self.flush()  # so that they report of no call that may be lost
             reported = [self.words[word](value) if word in self.words else {"error": "no word of this server"} for word, value in words]
-            own = outcomes.read(len(entries) * OUTCOME.size)
-            self.add_group(self.entries or None, front, marshal.dumps((own, [*map(json.dumps, reported)], age)))
+            at, own = at + len(entries), [it[at : at + len(entries)].tobytes() for it in answered]
+            self.add_group(self.entries or None, front, (own, [*map(json.dumps, reported)], age))
 
-    def add_group(self, entries: Optional[list[str]], front: Optional[Connection] = None, reply: bytes = b"") -> None:
+    def add_group(self, entries: Optional[list[str]], front: Optional[Connection] = None, reply: Any = None) -> None:
         """Has this made safe next, and then replied."""
         if entries is not None:
             self.entries, self.is_marked = [], not entries
@@ -110,7 +109,7 @@ class Server:
             self.is_safe.recv_bytes()
             self.appends = self.appends.result()  # none, or raises what the append has failed with
         for front, reply in [(front, reply) for _, front, reply in self.appended if front]:
-            front.send_bytes(reply)
+            front.send_bytes(marshal.dumps(reply))
         self.asked = len((fronts := {front for _, front, _ in self.appended}) | self.latest)
         self.latest, self.replied, self.appended = fronts, time.monotonic(), []
 
@@ -148,7 +147,7 @@ class Server:
         """What an operator should look after, or ok. That there is a reply says that batches become safe, as each reply waits for that."""
         clock, day = today(), self.chain.bank.day()  # a follower may get the next day a moment late
         jumped = "" if day is None or clock - day in (0, 1) else f"the clock says day {clock}, and the bank has day {day}"
-        reported = "; ".join(filter(None, (self.chain.trouble, self.trouble, jumped))) or "ok"
+        reported = "; ".join(filter(None, (self.chain.trouble or getattr(self.chain.journal, "silent", str)(), self.trouble, jumped))) or "ok"
         return {"health": reported, "leads": self.chain.leads, "seq": self.chain.bank.seq, "batch": self.chain.number}
 
     def figures(self, _: int) -> dict[str, Any]:
