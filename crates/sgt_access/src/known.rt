@@ -87,19 +87,19 @@ impl Known {
             self.only = Some(access.by);
             return true;
         }
-        self.add_with_others(access, others);
+        self.add_with_others(access.by, access.key, access.kind, others);
         false
     }
 
-    // The same, with masks of all accesses.
+    // The same, with masks of all accesses. The access comes in parts, so that callers need not write theirs to memory.
     #[inline(never)]
-    fn add_with_others(&mut self, access: Access, others: &[Access])
+    fn add_with_others(&mut self, by: Tid, key: Key, kind: Kind, others: &[Access])
         ensures known { (list : List ListedAccess) → Covers self.old.masks [] → StandsFor list others.now
-            → Knows self.new.only self.new.masks (list ++ access ∷ []) }
+            → Knows self.new.only self.new.masks (list ++ record { by = by; key = key; kind = kind } ∷ []) }
         ensures several { self.new.only ≡ None }
     {
         add_all(&mut self.masks, others);
-        self.masks.add(access);
+        self.masks.add(Access { by, key, kind });
         self.only = None;
     }
 }

@@ -58,7 +58,13 @@ pub extern "C" fn sgt_step(alloc: Global, engine: &mut Handle, t: u32, reply: &m
     ensures ends { EndsSucceed (Step t) engine.old.slot.held result }
     ensures statuses { result ≢ 10 → result ≤ 2 }
 {
-    apply_event(alloc, engine, Event::Step(Tid(t)), reply)
+    let mut held = take_held!(alloc, engine);
+    let answered = step(&mut held, Tid(t), reply);
+    engine.put(held);
+    match answered {
+        Ok(()) => status::OK,
+        Err(NoMemory) => status::NO_MEMORY,
+    }
 }
 
 /// Commits the transaction.
@@ -135,4 +141,19 @@ fn answer(held: &mut Held, event: Event, reply: &mut SgtReply) -> Result<(), NoM
         }
         Err(NoMemory) => Err(NoMemory),
     }
+}
+
+/// Runs a step on an engine, and writes the reply.
+#[inline(always)]
+fn step(held: &mut Held, t: Tid, reply: &mut SgtReply) -> Result<(), NoMemory>
+    ensures ok { OnOk result (Answered (Step t) (Some held.old) (Some held.new) reply.new) }
+    ensures kept { OnOk result (KeepsOtherFields reply.old reply.new) }
+    ensures unchanged { OnErr result ((held.new ≡ held.old) × (reply.new ≡ reply.old)) }
+    ensures ends { (r : Reply) → LegalReply (configuration_of held.old.engine) held.old.engine.past (Step t) r
+        → is_ending r ≡ true
+        → IsOk result }
+{
+    let stepped = held.engine.answer_step(t)?;
+    write_reply(reply, &stepped, held.engine.reply_lists());
+    Ok(())
 }

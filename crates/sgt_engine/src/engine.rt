@@ -1,7 +1,7 @@
 //! The engine: a scheduler with the history of its events and replies.
 ghost use Rattle.std.specs.Prelude.{◌≡◌, ℕ, true, false, [], Result, Ok, Err, IfOk, OnOk, OnErr, IsTrue, ◌↔◌, reverse};
 ghost use Rattle.std.specs.Result.{IsOk};
-ghost use Rattle.sgt_model.specs.declared.event.Event.TheVariants.{Quit};
+ghost use Rattle.sgt_model.specs.declared.event.Event.TheVariants.{Quit, Step};
 ghost use Rattle.sgt_model.specs.declared.reply.Reply.{Reply};
 ghost use Rattle.sgt_model.specs.Bounds.{AreInRange};
 ghost use Rattle.sgt_model.specs.Contents.{Key};
@@ -25,7 +25,7 @@ mod snapshot;
 
 use crate::changes::{changed, note_removal};
 use crate::past::Past;
-use crate::spare::ensure_capacity;
+use crate::spare::{ensure_capacity, ensure_step_capacity};
 pub use cut::CutError;
 pub use procedures::AddError;
 pub use put::PutError;
@@ -33,7 +33,7 @@ use sgt_access::Accesses;
 use sgt_graph::Graph;
 use sgt_log::History;
 use sgt_model::{
-    Database, Event, Key, Limits, MakeError, NoMemory, Reply, ReplyLists, ShortReply,
+    Database, Event, Key, Limits, MakeError, NoMemory, Reply, ReplyLists, ShortReply, Tid,
     calls_simulate, headline_holds, nexts_agree, replay_is_serial, states_are_sound,
     verdicts_agree,
 };
@@ -68,6 +68,8 @@ pub struct Engine<R: Records, A: Accesses, G: Graph> {
     history: History,
     // The lists of the newest entry's reply, if there is one.
     lists: ReplyLists,
+    // A place for replies of calls that most steps do not need.
+    late: ShortReply,
     // Whether the history has a removal, committed or not. The records may keep memory for what was removed.
     has_removal: bool,
     // The committed database that was kept last, if any was. A newer entry makes it too old.
@@ -128,6 +130,7 @@ impl<R: Records, A: Accesses, G: Graph> Engine<R, A, G> {
             sched,
             history: History::new(alloc),
             lists: ReplyLists::new(),
+            late: ShortReply::Unknown,
             has_removal: false,
             snapshot: None,
         })
@@ -214,6 +217,33 @@ impl<R: Records, A: Accesses, G: Graph> Engine<R, A, G> {
         self.history.push(event, reply, &self.lists);
         note_removal(&mut self.has_removal, reply);
         Ok(())
+    }
+
+    /// Answers a step as [`Engine::answer`] does, compiled into its caller, and returns the reply in short: a caller that takes it
+    /// apart at once never writes it to memory.
+    #[inline(always)]
+    pub fn answer_step(&mut self, t: Tid) -> Result<ShortReply, NoMemory>
+        ensures adds { IfOk result (λ r. Answers (Step t) self.old r self.new) }
+        ensures guarantees { Guarantees self.new }
+        ensures alone { IfOk result (λ s. (u : ℕ) → IsAlone self.old.past u → IsNoQuitOf (Step t) u → (r : Reply)
+            → short_reply r ≡ s → is_hindered r ≡ false) }
+        ensures unchanged { OnErr result (self.new ≡ self.old) }
+        ensures no_memory { (r : Reply) → LegalReply (configuration_of self.old) self.old.past (Step t) r
+            → is_ending r ≡ true
+            → IsOk result }
+    {
+        calls_simulate();
+        states_are_sound();
+        verdicts_agree();
+        nexts_agree();
+        endings_agree();
+        headline_holds();
+
+        ensure_step_capacity(&mut self.history, &self.sched, t)?;
+        let reply = self.sched.answer_step(t, &mut self.lists, &mut self.late)?;
+        self.history.push_step(t, &reply, &self.lists);
+        note_removal(&mut self.has_removal, &reply);
+        Ok(reply)
     }
 
     /// The lists of the reply to the newest event, if there was one. A list that the reply does not have may hold anything.
@@ -325,6 +355,7 @@ impl<R: Records, A: Accesses, G: Graph> Engine<R, A, G> {
             sched: _,
             history,
             lists: _,
+            late: _,
             has_removal: _,
             snapshot: _,
         } = self;

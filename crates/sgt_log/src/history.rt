@@ -4,7 +4,7 @@ ghost use Rattle.std.specs.Prelude.{IsTrue, Some, OnOk, OnErr, ◌*◌, ◌^◌,
 ghost use Rattle.std.specs.Result.{IsOk};
 ghost use Rattle.std.specs.Option.{option_map};
 ghost use Rattle.sgt_model.specs.declared.entry.Entry.{Entry};
-ghost use Rattle.sgt_model.specs.declared.event.Event.TheVariants.{Start, Access, Commit};
+ghost use Rattle.sgt_model.specs.declared.event.Event.TheVariants.{Start, Step, Access, Commit};
 ghost use Rattle.sgt_model.specs.declared.reply.Reply.TheVariants.{Started, Committed, Waits};
 ghost use Rattle.sgt_model.specs.ShortReplies.{full_reply, reply_with};
 ghost use Rattle.sgt_log.specs.StoredEntries.{short_of, HasNoLists, HasKey};
@@ -203,31 +203,7 @@ impl History {
     {
         // The frequent kinds are written straight to their position.
         match (event, reply) {
-            (
-                Event::Step(t),
-                ShortReply::Looked {
-                    key,
-                    value: Some(value),
-                },
-            ) => self.push_step(PackedEntry::Looked {
-                table: key.table(),
-                t: *t,
-                id: key.id(),
-                value: *value,
-            }),
-            (
-                Event::Step(t),
-                ShortReply::Wrote {
-                    key,
-                    value: Some(value),
-                },
-            ) => self.push_step(PackedEntry::Wrote {
-                table: key.table(),
-                t: *t,
-                id: key.id(),
-                value: *value,
-            }),
-            (Event::Step(t), ShortReply::Ended) => self.push_step(PackedEntry::Ended(*t)),
+            (Event::Step(t), _) => self.push_step(*t, reply, lists),
             (Event::Start { procedure, args }, ShortReply::Started(t)) => {
                 let _count = args.len();
                 self.push_start(*procedure, args.as_slice(), *t)
@@ -246,6 +222,55 @@ impl History {
             // Only a copy is passed to the call, so that an event that its caller has just made is never written to memory.
             _ => self.push_any(&event.copied(), reply, lists),
         }
+    }
+
+    /// Adds a step with its reply and these lists, for which there is capacity. It allocates nothing.
+    #[inline(always)]
+    pub fn push_step(&mut self, t: Tid, reply: &ShortReply, lists: &ReplyLists)
+        requires { 0 < self.old.spare }
+        ensures entries { self.new.entries
+            ≡ self.old.entries ++ record { event = Step t; reply = reply_with reply.now lists.now } ∷ [] }
+        ensures spare { self.new.spare + 1 ≡ self.old.spare }
+        ensures capacities { self.new.capacities ≡ self.old.capacities }
+    {
+        match reply {
+            ShortReply::Looked {
+                key,
+                value: Some(value),
+            } => self.push_packed(PackedEntry::Looked {
+                table: key.table(),
+                t,
+                id: key.id(),
+                value: *value,
+            }),
+            ShortReply::Wrote {
+                key,
+                value: Some(value),
+            } => self.push_packed(PackedEntry::Wrote {
+                table: key.table(),
+                t,
+                id: key.id(),
+                value: *value,
+            }),
+            ShortReply::Ended => self.push_packed(PackedEntry::Ended(t)),
+            // Only a copy is passed to the call, so that a reply that its caller has just made is never written to memory.
+            _ => {
+                let reply = *reply;
+                self.push_other_step(t, &reply, lists)
+            }
+        }
+    }
+
+    // Adds a step with a reply of any kind.
+    #[inline(never)]
+    fn push_other_step(&mut self, t: Tid, reply: &ShortReply, lists: &ReplyLists)
+        requires { 0 < self.old.spare }
+        ensures entries { self.new.entries
+            ≡ self.old.entries ++ record { event = Step t; reply = reply_with reply.now lists.now } ∷ [] }
+        ensures spare { self.new.spare + 1 ≡ self.old.spare }
+        ensures capacities { self.new.capacities ≡ self.old.capacities }
+    {
+        self.push_any(&Event::Step(t), reply, lists)
     }
 
     // Adds an entry of any kind.
@@ -377,7 +402,7 @@ impl History {
         // Most entries are steps, and are copied as they are.
         match other.entries.step_at(place) {
             Some(step) => {
-                self.push_step(step);
+                self.push_packed(step);
                 step.kind()
             }
             None => {
@@ -430,7 +455,7 @@ impl History {
 
     // Adds a step that read, wrote or came to the procedure's end.
     #[inline(always)]
-    fn push_step(&mut self, step: PackedEntry)
+    fn push_packed(&mut self, step: PackedEntry)
         requires spare { 0 < self.old.spare }
         requires step { IsStep step }
         requires key { HasKey (unpacked [] step).reply }
@@ -453,7 +478,7 @@ impl History {
         // The frequent kinds are written straight to their position.
         match (&entry.stored.event, &entry.stored.reply) {
             (StoredEvent::Step(t), StoredReply::Looked { table, id, value }) => {
-                self.push_step(PackedEntry::Looked {
+                self.push_packed(PackedEntry::Looked {
                     table: *table,
                     t: *t,
                     id: *id,
@@ -461,14 +486,14 @@ impl History {
                 })
             }
             (StoredEvent::Step(t), StoredReply::Wrote { table, id, value }) => {
-                self.push_step(PackedEntry::Wrote {
+                self.push_packed(PackedEntry::Wrote {
                     table: *table,
                     t: *t,
                     id: *id,
                     value: *value,
                 })
             }
-            (StoredEvent::Step(t), StoredReply::Ended) => self.push_step(PackedEntry::Ended(*t)),
+            (StoredEvent::Step(t), StoredReply::Ended) => self.push_packed(PackedEntry::Ended(*t)),
             (StoredEvent::Start { procedure, .. }, StoredReply::Started(t)) => {
                 self.push_start(*procedure, entry.args(), *t)
             }

@@ -94,8 +94,43 @@ impl Place {
         self.at = 0;
     }
 
-    /// Continues to the next access, or to the end or a code, and writes to `stop` which.
+    /// Continues to the next access, or to the end or a code, and writes to `stop` which. Most statements have terms alone. From
+    /// the first other one on, `advance_by_parts` continues in its place, so that this loop calls nothing.
     pub fn advance(&mut self, body: &[Statement], stop: &mut Stop)
+        requires shallow { depth (block_of body.now) ≤ 16 }
+        requires short { size (block_of body.now) ≤ 64 }
+        requires inside { IsIn (block_of body.now) self.old }
+        ensures stops { Stops (block_of body.now) self.old stop.new self.new }
+        ensures in_range { StopsAtValue stop.new }
+    {
+        let mut list = list_at(body, self.path.as_slice());
+        loop {
+            let at = usize::from(self.at);
+            if at < list.len() {
+                match self.step_by_terms(&list[at], stop) {
+                    Some(Went::Stopped) => return,
+                    Some(Went::On) => {}
+                    Some(Went::Inside) => list = list_at(body, self.path.as_slice()),
+                    None => return self.advance_by_parts(body, stop),
+                }
+            } else {
+                match self.path.pop() {
+                    Some(turn) => {
+                        self.at = turn.at + 1;
+                        list = list_at(body, self.path.as_slice());
+                    }
+                    None => {
+                        *stop = Stop::End;
+                        return;
+                    }
+                }
+            }
+        }
+    }
+
+    // The same, whatever the statements evaluate.
+    #[inline(never)]
+    fn advance_by_parts(&mut self, body: &[Statement], stop: &mut Stop)
         requires shallow { depth (block_of body.now) ≤ 16 }
         requires short { size (block_of body.now) ≤ 64 }
         requires inside { IsIn (block_of body.now) self.old }
@@ -113,8 +148,8 @@ impl Place {
                 }
             } else {
                 match self.path.pop() {
-                    Some(turn) => {
-                        self.at = turn.at + 1;
+                    Some(left) => {
+                        self.at = left.at + 1;
                         list = list_at(body, self.path.as_slice());
                     }
                     None => {
@@ -126,7 +161,7 @@ impl Place {
         }
     }
 
-    // Executes the statement there, unless it is an access: then it stops. Most statements have terms alone, which need no call.
+    // Executes the statement there, unless it is an access: then it stops.
     #[inline(always)]
     fn step(&mut self, statement: &Statement, stop: &mut Stop) -> Went
         requires capacity { array_vec_len self.old.path < 16 }

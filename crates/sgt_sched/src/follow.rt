@@ -8,6 +8,7 @@ use sgt_model::{Tid, Tids};
 
 /// Adds edges from the rivals of an access to t, which close no cycle, by the link that a plan of them returned. Most
 /// accesses have no rival.
+#[inline(always)]
 pub fn follow<G: Graph>(graph: &mut G, t: Tid, rivals: &Tids, link: Link)
     requires node { G.nodes graph.old t ≡ true }
     requires others { (u : ℕ) → Member u rivals.now → (G.nodes graph.old u ≡ true) × (u ≢ t) }

@@ -118,7 +118,10 @@ impl<R: Records, A: Accesses, G: Graph> Sched<R, A, G> {
     {
         match event {
             Event::Start { procedure, args } => self.answer_start(*procedure, args, reply),
-            Event::Step(t) => self.answer_step(*t, lists, reply),
+            Event::Step(t) => {
+                *reply = self.answer_step(*t, lists, reply)?;
+                Ok(())
+            }
             Event::Access(t, request) => self.answer_request(*t, request, lists, reply),
             Event::Commit(t) => {
                 self.answer_commit(*t, lists, reply);
@@ -213,12 +216,13 @@ impl<R: Records, A: Accesses, G: Graph> Sched<R, A, G> {
         self.live.index(t)
     }
 
-    // The reply to an event of a transaction that is not live.
-    fn answer_not_live(&self, t: Tid, lists: &mut ReplyLists) -> ShortReply
+    // Writes the reply to an event of a transaction that is not live to its place.
+    #[inline(never)]
+    fn answer_not_live(&self, t: Tid, lists: &mut ReplyLists, reply: &mut ShortReply)
         requires not_live { IsUnended (state self.now) t → ⊥ }
-        ensures { IsNotLive (state self.now) t (reply_with result lists.new) }
+        ensures { IsNotLive (state self.now) t (reply_with reply.new lists.new) }
     {
-        match self.fates.get(t, &mut lists.cycle) {
+        *reply = match self.fates.get(t, &mut lists.cycle) {
             Some(fate) => ShortReply::Over(fate),
             None => ShortReply::Unknown,
         }

@@ -51,7 +51,7 @@ impl<R: Records, A: Accesses, G: Graph> Sched<R, A, G> {
         ensures { Turns (WithLists (CommitEffect (asks_of self.old) t) lists.new) self.old reply.new self.new }
     {
         let Some(index) = self.index(t) else {
-            *reply = self.answer_not_live(t, lists);
+            self.answer_not_live(t, lists, reply);
             return;
         };
         match self.ahead_at(t, index) {

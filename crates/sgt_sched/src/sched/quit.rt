@@ -33,6 +33,6 @@ impl<R: Records, A: Accesses, G: Graph> Sched<R, A, G> {
             *reply = ShortReply::Aborted(ShortCause::Quit);
             return;
         }
-        *reply = self.answer_not_live(t, lists);
+        self.answer_not_live(t, lists, reply);
     }
 }

@@ -7,7 +7,7 @@ ghost use Rattle.sgt_sched.specs.Replies.{WithLists, with_reply};
 ghost use Rattle.sgt_sched.specs.Endings.{EndsOne};
 ghost use Rattle.sgt_sched.specs.Scheduler.{state, asks_of, Tries};
 
-use crate::operation::operation_of;
+use crate::operation::{Operation, operation_of};
 use crate::sched::Sched;
 use sgt_access::Accesses;
 use sgt_graph::Graph;
@@ -30,7 +30,7 @@ impl<R: Records, A: Accesses, G: Graph> Sched<R, A, G> {
         ensures no_memory { EndsOne (asks_of self.old) (Access t request.now) (state self.old) → IsOk result }
     {
         let Some(index) = self.index(t) else {
-            *reply = self.answer_not_live(t, lists);
+            self.answer_not_live(t, lists, reply);
             return Ok(());
         };
         let Ahead::Ends = self.ahead_at(t, index) else {
@@ -41,7 +41,11 @@ impl<R: Records, A: Accesses, G: Graph> Sched<R, A, G> {
             *reply = ShortReply::BadArgs;
             return Ok(());
         };
-        self.access(t, index, key, operation, lists, reply)
+        *reply = match operation {
+            Operation::Look => self.look(t, index, key, lists, reply),
+            Operation::Store(value) => self.store(t, index, key, value, lists, reply),
+        }?;
+        Ok(())
     }
 
     // Whether an access that the caller of a transaction asks for would end it.

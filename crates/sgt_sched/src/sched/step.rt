@@ -5,18 +5,16 @@ ghost use Rattle.sgt_model.specs.declared.event.Event.TheVariants.{Step};
 ghost use Rattle.sgt_model.specs.declared.kind.Kind.TheVariants.{Look, Store};
 ghost use Rattle.sgt_model.specs.CallEffects.{StepEffect, StepOn, MakesLook, MakesStore};
 ghost use Rattle.sgt_model.specs.Numbers.{IsValue};
-ghost use Rattle.sgt_model.specs.Traces.{Raises};
+ghost use Rattle.sgt_model.specs.Traces.{Looks, Puts, Raises};
 ghost use Rattle.sgt_model.specs.Paths.{Member};
 ghost use Rattle.sgt_cycle.specs.Path.{NoPath};
 ghost use Rattle.sgt_sched.specs.Replies.{WithLists, WithAnyLists, with_reply};
 ghost use Rattle.sgt_sched.specs.Endings.{EndsOne, IsBlocked};
 ghost use Rattle.sgt_sched.specs.LiveList.{has_number};
-ghost use Rattle.sgt_sched.specs.Operations.{kind_of, next_of, WritesValue};
 ghost use Rattle.sgt_sched.specs.Scheduler.{parts, state, asks_of, Turns, Tries, LinksOrAborts};
 ghost use Rattle.sgt_sched.specs.Steps.{AreRivals};
 
 use crate::follow::follow;
-use crate::operation::Operation;
 use crate::reads::note_read;
 use crate::sched::Sched;
 use sgt_access::Accesses;
@@ -45,126 +43,138 @@ impl<R: Records, A: Accesses, G: Graph> Sched<R, A, G> {
         ensures no_memory { EndsOne (asks_of self.old) (Step t) (state self.old) → IsOk result }
     {
         let mut lists = ReplyLists::new();
-        let mut reply = ShortReply::Unknown;
-        self.answer_step(t, &mut lists, &mut reply)?;
+        let mut late = ShortReply::Unknown;
+        let reply = self.answer_step(t, &mut lists, &mut late)?;
         Ok(reply.with_lists(&lists))
     }
 
-    // The same, with the reply in short, which is written to its place.
-    pub(super) fn answer_step(
+    /// The same, with the reply in short, compiled into its caller. It is returned, so that a caller that takes it apart at once
+    /// never writes it to memory. `late` is where calls that most steps do not need write theirs.
+    #[inline(always)]
+    pub fn answer_step(
         &mut self,
         t: Tid,
         lists: &mut ReplyLists,
-        reply: &mut ShortReply,
-    ) -> Result<(), NoMemory>
-        ensures done { Tries (WithLists (StepEffect (asks_of self.old) t) lists.new) self.old (with_reply result reply.new) self.new }
+        late: &mut ShortReply,
+    ) -> Result<ShortReply, NoMemory>
+        ensures done { Tries (WithLists (StepEffect (asks_of self.old) t) lists.new) self.old result self.new }
         ensures lists { OnErr result (lists.new ≡ lists.old) }
         ensures no_memory { EndsOne (asks_of self.old) (Step t) (state self.old) → IsOk result }
     {
         let Some(index) = self.index(t) else {
-            *reply = self.answer_not_live(t, lists);
-            return Ok(());
+            self.answer_not_live(t, lists, late);
+            return Ok(*late);
         };
         match self.ahead_at(t, index) {
-            Ahead::Look(key) => self.access(t, index, key, Operation::Look, lists, reply),
-            Ahead::Put(key, value) => {
-                self.access(t, index, key, Operation::Store(value), lists, reply)
-            }
-            Ahead::Ends => {
-                *reply = ShortReply::Ended;
-                Ok(())
-            }
-            Ahead::Asks(code) => {
-                *reply = self.step_raised(t, code, lists);
-                Ok(())
-            }
+            Ahead::Look(key) => self.look(t, index, key, lists, late),
+            Ahead::Put(key, value) => self.store(t, index, key, value, lists, late),
+            Ahead::Ends => Ok(ShortReply::Ended),
+            Ahead::Asks(code) => Ok(self.step_raised(t, code, lists)),
         }
     }
 
-    // Makes an access of a live transaction, which has this index. If the access would close a cycle, it aborts the
-    // transaction. Most accesses have no rival.
+    // Makes a read of a live transaction, which has this index. If it would close a cycle, it aborts the transaction. Most
+    // have no rival.
     #[inline(always)]
-    pub(super) fn access(
+    pub(super) fn look(
         &mut self,
         t: Tid,
         index: usize,
         key: Key,
-        operation: Operation,
         lists: &mut ReplyLists,
-        reply: &mut ShortReply,
-    ) -> Result<(), NoMemory>
+        late: &mut ShortReply,
+    ) -> Result<ShortReply, NoMemory>
         requires live { (state self.old).nodes t ≡ true }
         requires at { position (has_number t) (parts self.old).live ≡ Some index }
-        requires in_range { WritesValue operation }
-        ensures done { Tries (WithLists (StepOn (asks_of self.old) t (next_of key operation)) lists.new) self.old (with_reply result reply.new) self.new }
+        ensures done { Tries (WithLists (StepOn (asks_of self.old) t (Looks key)) lists.new) self.old result self.new }
         ensures lists { OnErr result (lists.new ≡ lists.old) }
-        ensures no_memory { IsBlocked (state self.old) t key (kind_of operation) → IsOk result }
+        ensures no_memory { IsBlocked (state self.old) t key Look → IsOk result }
     {
-        if self.accesses.has_rival(t, key, operation.kind()) {
-            return self.access_after(t, index, key, operation, lists, reply);
+        if self.accesses.has_rival(t, key, Kind::Look) {
+            self.look_after(t, index, key, lists, late)?;
+            return Ok(*late);
         }
-        self.make_access(
-            t,
-            index,
-            key,
-            operation,
-            &Tids::new(),
-            Link::default(),
-            reply,
-        )
+        self.make_look(t, index, key, &Tids::new(), Link::default())
     }
 
-    // The same, if others have conflicting accesses. It is called, so that `access` stays small: from a function that
-    // would grow very large the compiler drops `inline(always)`, without a message.
+    // The same, if there are rivals. It is called, so that `look` stays small: from a function that would grow very large the
+    // compiler drops `inline(always)`, without a message.
     #[inline(never)]
-    fn access_after(
+    fn look_after(
         &mut self,
         t: Tid,
         index: usize,
         key: Key,
-        operation: Operation,
         lists: &mut ReplyLists,
-        reply: &mut ShortReply,
+        late: &mut ShortReply,
     ) -> Result<(), NoMemory>
         requires live { (state self.old).nodes t ≡ true }
         requires at { position (has_number t) (parts self.old).live ≡ Some index }
-        requires in_range { WritesValue operation }
-        ensures done { Tries (WithLists (StepOn (asks_of self.old) t (next_of key operation)) lists.new) self.old (with_reply result reply.new) self.new }
+        ensures done { Tries (WithLists (StepOn (asks_of self.old) t (Looks key)) lists.new) self.old (with_reply result late.new) self.new }
         ensures lists { OnErr result (lists.new ≡ lists.old) }
-        ensures no_memory { IsBlocked (state self.old) t key (kind_of operation) → IsOk result }
+        ensures no_memory { IsBlocked (state self.old) t key Look → IsOk result }
     {
-        let rivals = self.accesses.rivals(t, key, operation.kind());
+        let rivals = self.accesses.rivals(t, key, Kind::Look);
         let Some(link) = self.plan_or_abort(t, &rivals, lists) else {
-            *reply = ShortReply::Aborted(ShortCause::Cycle);
+            *late = ShortReply::Aborted(ShortCause::Cycle);
             return Ok(());
         };
-        self.make_access(t, index, key, operation, &rivals, link, reply)
+        *late = self.make_look(t, index, key, &rivals, link)?;
+        Ok(())
     }
 
-    // Makes an access of a live transaction, which has this index, after these rivals.
+    // Makes a write of a live transaction, which has this index. If it would close a cycle, it aborts the transaction. Most
+    // have no rival.
     #[inline(always)]
-    fn make_access(
+    pub(super) fn store(
         &mut self,
         t: Tid,
         index: usize,
         key: Key,
-        operation: Operation,
-        rivals: &Tids,
-        link: Link,
-        reply: &mut ShortReply,
+        value: Option<i64>,
+        lists: &mut ReplyLists,
+        late: &mut ShortReply,
+    ) -> Result<ShortReply, NoMemory>
+        requires live { (state self.old).nodes t ≡ true }
+        requires at { position (has_number t) (parts self.old).live ≡ Some index }
+        requires in_range { IfSome value IsValue }
+        ensures done { Tries (WithLists (StepOn (asks_of self.old) t (Puts key value)) lists.new) self.old result self.new }
+        ensures lists { OnErr result (lists.new ≡ lists.old) }
+        ensures no_memory { IsBlocked (state self.old) t key Store → IsOk result }
+    {
+        if self.accesses.has_rival(t, key, Kind::Store) {
+            self.store_after(t, index, key, value, lists, late)?;
+            return Ok(*late);
+        }
+        self.make_store(t, index, key, value, &Tids::new(), Link::default())
+    }
+
+    // The same, if there are rivals. It is called, so that `store` stays small: from a function that would grow very large the
+    // compiler drops `inline(always)`, without a message.
+    #[inline(never)]
+    fn store_after(
+        &mut self,
+        t: Tid,
+        index: usize,
+        key: Key,
+        value: Option<i64>,
+        lists: &mut ReplyLists,
+        late: &mut ShortReply,
     ) -> Result<(), NoMemory>
         requires live { (state self.old).nodes t ≡ true }
         requires at { position (has_number t) (parts self.old).live ≡ Some index }
-        requires in_range { WritesValue operation }
-        requires rivals { AreRivals (state self.old) t key (kind_of operation) rivals.now }
-        requires free { NoPath (state self.old).pairs t rivals.now }
-        requires planned { rivals.now ≢ [] → G.is_planned (parts self.old).graph t rivals.now link }
-        ensures { Tries (WithAnyLists (StepOn (asks_of self.old) t (next_of key operation))) self.old (with_reply result reply.new) self.new }
+        requires in_range { IfSome value IsValue }
+        ensures done { Tries (WithLists (StepOn (asks_of self.old) t (Puts key value)) lists.new) self.old (with_reply result late.new) self.new }
+        ensures lists { OnErr result (lists.new ≡ lists.old) }
+        ensures no_memory { IsBlocked (state self.old) t key Store → IsOk result }
     {
-        match operation {
-            Operation::Look => self.make_look(t, index, key, rivals, link, reply),
-            Operation::Store(value) => self.make_store(t, index, key, value, rivals, link, reply),
-        }
+        let rivals = self.accesses.rivals(t, key, Kind::Store);
+        let Some(link) = self.plan_or_abort(t, &rivals, lists) else {
+            *late = ShortReply::Aborted(ShortCause::Cycle);
+            return Ok(());
+        };
+        *late = self.make_store(t, index, key, value, &rivals, link)?;
+        Ok(())
     }
 
     // Makes a read of a live transaction, which has this index, after these writers.
@@ -176,14 +186,13 @@ impl<R: Records, A: Accesses, G: Graph> Sched<R, A, G> {
         key: Key,
         writers: &Tids,
         link: Link,
-        reply: &mut ShortReply,
-    ) -> Result<(), NoMemory>
+    ) -> Result<ShortReply, NoMemory>
         requires live { (state self.old).nodes t ≡ true }
         requires at { position (has_number t) (parts self.old).live ≡ Some index }
         requires writers { AreRivals (state self.old) t key Look writers.now }
         requires free { NoPath (state self.old).pairs t writers.now }
         requires planned { writers.now ≢ [] → G.is_planned (parts self.old).graph t writers.now link }
-        ensures { Tries (WithAnyLists (MakesLook t key)) self.old (with_reply result reply.new) self.new }
+        ensures { Tries (WithAnyLists (MakesLook t key)) self.old result self.new }
     {
         let top = self.records.top(key);
         let value = top.value();
@@ -193,8 +202,7 @@ impl<R: Records, A: Accesses, G: Graph> Sched<R, A, G> {
         self.accesses.note(t, key, Kind::Look);
         note_read(&mut self.read_from, &top, t);
         self.live.look(t, index, &self.procedures, value);
-        *reply = ShortReply::Looked { key, value };
-        Ok(())
+        Ok(ShortReply::Looked { key, value })
     }
 
     // Makes a write of a live transaction, which has this index, after these rivals.
@@ -207,15 +215,14 @@ impl<R: Records, A: Accesses, G: Graph> Sched<R, A, G> {
         value: Option<i64>,
         rivals: &Tids,
         link: Link,
-        reply: &mut ShortReply,
-    ) -> Result<(), NoMemory>
+    ) -> Result<ShortReply, NoMemory>
         requires live { (state self.old).nodes t ≡ true }
         requires at { position (has_number t) (parts self.old).live ≡ Some index }
         requires in_range { IfSome value IsValue }
         requires rivals { AreRivals (state self.old) t key Store rivals.now }
         requires free { NoPath (state self.old).pairs t rivals.now }
         requires planned { rivals.now ≢ [] → G.is_planned (parts self.old).graph t rivals.now link }
-        ensures { Tries (WithAnyLists (MakesStore t key value)) self.old (with_reply result reply.new) self.new }
+        ensures { Tries (WithAnyLists (MakesStore t key value)) self.old result self.new }
     {
         self.records.reserve(key)?;
         self.accesses.reserve(key)?;
@@ -223,8 +230,7 @@ impl<R: Records, A: Accesses, G: Graph> Sched<R, A, G> {
         self.records.write(t, key, value);
         self.accesses.note(t, key, Kind::Store);
         self.live.store(t, index, &self.procedures);
-        *reply = ShortReply::Wrote { key, value };
-        Ok(())
+        Ok(ShortReply::Wrote { key, value })
     }
 
     // Returns what links edges from these rivals to a live transaction. If they would close a cycle, it aborts the transaction;

@@ -9,3 +9,8 @@ returns-then-is_empty-clause-known c list start stands =
     let none : length c.args.others.now ≡ 0 = search rules in
     subst (λ t. Knows (Some t) c.args.self.now.masks (list ++ c.args.access ∷ [])) (sym (ap (λ (a : ListedAccess). a.by) c.access.view_is))
     (first_noted c.args.self.now.masks list c.args.others.now c.args.access none stands start)
+
+pub returns-clause-known : goal.returns-clause-known
+returns-clause-known c list start stands =
+    subst (λ a. Knows c.add_with_others.new.self.only c.add_with_others.new.self.masks (list ++ a ∷ [])) c.access.view_is
+    (c.add_with_others.ensures.known list start stands)

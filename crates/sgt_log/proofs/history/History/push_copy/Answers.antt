@@ -6,8 +6,8 @@ use Rattle.sgt_log.specs.StepKinds.{kind_of, IsOfKind}
 use Rattle.sgt_log.proofs.Packed.{step_plain, step_kind}
 use Rattle.sgt_log.proofs.history.History.push_copy.Goals as goal
 
-pub push_step-requires-clause-key : goal.push_step-requires-clause-key
-push_step-requires-clause-key c =
+pub push_packed-requires-clause-key : goal.push_packed-requires-clause-key
+push_packed-requires-clause-key c =
     (seen_at c.other.inside.tids.items c.other.inside.values.items c.other.inside.entries.items c.args.other.now.entries
     c.args.place (unpacked [] c.in-Some.step) (ap (λ h. h.entries) c.other.view_is) c.other.invariant.0 c.requires.there
     c.in-Some.ensures.here).1.1.key
@@ -19,7 +19,7 @@ returns-in-Some-clause-entries c e there =
     let seen = seen_at c.other.inside.tids.items c.other.inside.values.items c.other.inside.entries.items c.args.other.now.entries
     c.args.place step (ap (λ h. h.entries) c.other.view_is) c.other.invariant.0 c.requires.there c.in-Some.ensures.here in
     let same = same_Some _ e (sym seen.0 ∙ there) in
-    c.push_step.ensures.entries
+    c.push_packed.ensures.entries
     ∙ ap (λ x. c.args.self.now.entries ++ x ∷ [])
     (sym (plain-entry c.other.inside.tids.items c.other.inside.values.items step.event step.reply plain.0 plain.1) ∙ same)
 

@@ -14,15 +14,6 @@ returns-in-Start-clause-done g c = record {
   kept = c.answer_start.ensures.kept;
 }
 
-pub returns-in-Step-clause-done : goal.returns-in-Step-clause-done
-returns-in-Step-clause-done g c = record {
-  done = IfOk-weaker (with_reply c.answer_step.result c.answer_step.new.reply) _ _
-      (λ b done. (called (rules_of c.args.self.now) (state c.args.self.now) (reply_with b c.answer_step.new.lists)
-      (state c.answer_step.new.self) c.args.event.now _ c.in-Step.is) done) c.answer_step.ensures.done.done;
-  refused = c.answer_step.ensures.done.refused;
-  kept = c.answer_step.ensures.done.kept;
-}
-
 pub returns-in-Access-clause-done : goal.returns-in-Access-clause-done
 returns-in-Access-clause-done g c = record {
   done = IfOk-weaker (with_reply c.answer_request.result c.answer_request.new.reply) _ _

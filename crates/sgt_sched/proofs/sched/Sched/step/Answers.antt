@@ -7,7 +7,7 @@ pub returns : goal.returns
 returns g c = record {
   done = record {
     done = subst (λ r. StepEffect (asks_of c.args.self.now) c.args.t (state c.args.self.now) r (state c.answer_step.new.self))
-        (sym c.with_lists.ensures) c.in_ok-answer_step.ensures.done.done;
+        (sym c.with_lists.ensures) c.in_ok-reply.ensures.done.done;
     refused = tt;
     kept = c.answer_step.ensures.done.kept;
   };

@@ -2,7 +2,7 @@ use Rattle.std.proofs.Common.{◌∷◌, [], ◌++◌, ap, ap₂, sym, ◌∙◌
 use Rattle.sgt_log.specs.PackedEntries.{unpacked}
 use Rattle.sgt_log.proofs.Entries.{entries-pushed, entries-after, plain-entry, plain-within}
 use Rattle.sgt_log.proofs.Packed.{step_plain, step_whole}
-use Rattle.sgt_log.proofs.history.History.push_step.Goals as goal
+use Rattle.sgt_log.proofs.history.History.push_packed.Goals as goal
 
 pub push_whole-requires-clause-whole : goal.push_whole-requires-clause-whole
 push_whole-requires-clause-whole c = step_whole c.args.step c.requires.step
