@@ -10,8 +10,7 @@ ghost use Rattle.sgt_c.specs.BufferTexts.{IsFaultKind, IsWritten, fault_text, pl
 ghost use Rattle.sgt_c.specs.ReplyReadings.{HoldsValidReply};
 
 use crate::fault_struct::SgtFault;
-use crate::reply_reading::reply_of;
-use crate::reply_struct::SgtReply;
+use crate::reply_struct::{SgtReply, reply_of};
 use crate::status;
 use sgt_format::{append_numbered, reply_line};
 use sgt_model::NoMemory;

@@ -22,7 +22,6 @@ mod access_struct;
 mod call_struct;
 mod event_struct;
 mod fault_struct;
-mod reply_reading;
 mod reply_struct;
 mod row_struct;
 mod status;

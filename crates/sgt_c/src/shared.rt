@@ -6,15 +6,12 @@
 
 pub mod alone;
 pub mod ask_struct;
-mod committing;
+mod calls;
 mod cutting;
 pub mod desk_struct;
 pub mod handing_on;
 pub mod lent;
-mod making;
 pub mod planning;
 pub mod run_struct;
-mod running;
-mod starting;
 mod turns;
 pub mod waiting;

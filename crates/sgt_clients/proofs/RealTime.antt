@@ -1,5 +1,5 @@
 -- Steps of real time and of what was observed, in an order that keeps real time.
-use Rattle.std.proofs.Common.{◌≡◌, ◌≢◌, ◌<◌, ◌≤◌, ◌+◌, ◌∙◌, ℕ, true, false, List, [], ◌∷◌, ◌++◌, sym, ap, subst, inl, inr, arith, Some, slice_get}
+use Rattle.std.proofs.Common.{◌≡◌, ◌≢◌, ◌<◌, ◌≤◌, ◌+◌, ◌∙◌, ℕ, true, false, List, [], ◌∷◌, ◌++◌, sym, ap, subst, inl, inr, arith, Option, Some, None, slice_get}
 use Rattle.std.specs.Prelude.{◌⊎◌}
 use Rattle.std.proofs.lemmas.Bool.{cases_eq}
 use Rattle.sgt_appends.specs.declared.transaction.Transaction.{Transaction}
@@ -7,9 +7,8 @@ use Rattle.sgt_appends.specs.Lists.{Has, IsOnce, StandsBefore}
 use Rattle.sgt_appends.specs.Precedences.{AppendsOnce}
 use Rattle.sgt_appends.proofs.Words.{Has-append_cases, StandsBefore-cases, StandsBefore-has, stand_somehow, last_stands}
 use Rattle.sgt_appends.proofs.Orders.{place_of, here, further, precedes_first}
+use Rattle.sgt_levels.specs.declared.tie.Ground.{Ground}
 use Rattle.sgt_clients.specs.declared.clients.Span.{Span}
-use Rattle.sgt_clients.specs.declared.finding.Why.{Why}
-use Rattle.sgt_clients.specs.declared.finding.Why.TheVariants.{Observed, RealTime}
 use Rattle.sgt_clients.specs.Findings.{EndedBefore, KeepsTime, IsOrder, HasOrder, Shows}
 use Rattle.sgt_clients.specs.Times.{ComesAfter}
 
@@ -39,10 +38,10 @@ time_first (x ∷ xs) t u once has differ stands = elim (cases_eq x u) [
 ]
 
 -- what a step shows comes first
-shown_first : (h : List Transaction) (spans : List Span) (order : List ℕ) (t u : ℕ) (why : Why) → AppendsOnce h
-    → IsOrder true h spans order → Shows h spans t u why → place_of order t < place_of order u
-shown_first h spans order t u (Observed reason) once is shows = precedes_first h order t u once is.0 shows
-shown_first h spans order t u RealTime once is shows =
+shown_first : (h : List Transaction) (spans : List Span) (order : List ℕ) (t u : ℕ) (ground : Option Ground) → AppendsOnce h
+    → IsOrder true h spans order → Shows h spans t u ground → place_of order t < place_of order u
+shown_first h spans order t u (Some ground) once is shows = precedes_first h order t u once is.0 shows
+shown_first h spans order t u None once is shows =
     let has : Has order t = is.0.committed t shows.1 in
     time_first order t u is.0.once has shows.0 (λ there. is.1 t u has there shows.2)
 
@@ -51,10 +50,10 @@ abbrev pub Climbs : List Transaction → List Span → ℕ → ℕ → ℕ → T
 Climbs h spans i a b = (order : List ℕ) → AppendsOnce h → IsOrder true h spans order
     → ((i ≡ 0) × (a ≡ b)) ⊎ ((0 < i) × (place_of order a < place_of order b))
 
-pub climb_one : (h : List Transaction) (spans : List Span) (i a m t u : ℕ) (why : Why) → Climbs h spans i a m → t ≡ m
-    → Shows h spans t u why → Climbs h spans (i + 1) a u
-climb_one h spans i a m t u why climbs same shows = λ order once is.
-    let less : place_of order t < place_of order u = shown_first h spans order t u why once is shows in
+pub climb_one : (h : List Transaction) (spans : List Span) (i a m t u : ℕ) (ground : Option Ground) → Climbs h spans i a m → t ≡ m
+    → Shows h spans t u ground → Climbs h spans (i + 1) a u
+climb_one h spans i a m t u ground climbs same shows = λ order once is.
+    let less : place_of order t < place_of order u = shown_first h spans order t u ground once is shows in
     elim (climbs order once is) [
       | inl w ↦ inr (omega arith, subst (λ n. place_of order n < place_of order u) (same ∙ sym w.1) less)
       | inr w ↦ inr (omega arith, omega (arith, w.1, less, ap (λ n. place_of order n) same))

@@ -7,10 +7,8 @@ use Rattle.sgt_clients.specs.declared.anomalies.Example.TheVariants.{Read, Parti
 use Rattle.sgt_clients.specs.declared.anomalies.Seen.{Seen}
 use Rattle.sgt_format.specs.Templates.{filled}
 use Rattle.sgt_clients.specs.declared.clients.Clients.{Clients}
-use Rattle.sgt_clients.specs.JsonText.{list_text, cycle_member, reader_members}
-use Rattle.sgt_clients.specs.ReportText.{fault_text, fault_line}
-use Rattle.sgt_clients.specs.LevelJson.{tie_object}
-use Rattle.sgt_clients.specs.TieText.{tie_text, partial_text, partial_line}
+use Rattle.sgt_clients.specs.JsonText.{list_text, tie_object, cycle_member, reader_members}
+use Rattle.sgt_clients.specs.ReportText.{fault_text, fault_line, tie_text, partial_text, partial_line}
 
 -- the lines of an example
 abbrev pub example_text : Clients → Example → List ℕ

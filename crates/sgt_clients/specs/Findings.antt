@@ -1,13 +1,12 @@
 -- The claims of a finding, with real time or without.
-use Rattle.std.specs.Prelude.{◌≡◌, ◌≢◌, ◌<◌, ℕ, Bool, true, false, List, Some, slice_get}
+use Rattle.std.specs.Prelude.{◌≡◌, ◌≢◌, ◌<◌, ℕ, Bool, true, false, List, Option, Some, None, slice_get}
 use Rattle.sgt_appends.specs.declared.transaction.Status.TheVariants.{Committed}
 use Rattle.sgt_appends.specs.declared.transaction.Transaction.{Transaction}
 use Rattle.sgt_appends.specs.Lists.{Has, StandsBefore}
 use Rattle.sgt_appends.specs.Runs.{Ended, IsSerialRun}
 use Rattle.sgt_appends.specs.Precedences.{Precedes}
+use Rattle.sgt_levels.specs.declared.tie.Ground.{Ground}
 use Rattle.sgt_clients.specs.declared.clients.Span.{Span}
-use Rattle.sgt_clients.specs.declared.finding.Why.{Why}
-use Rattle.sgt_clients.specs.declared.finding.Why.TheVariants.{Observed, RealTime}
 use Rattle.sgt_clients.specs.declared.finding.Finding.{Finding}
 use Rattle.sgt_clients.specs.declared.finding.Finding.TheVariants.{Serial, Cycle, Fault}
 
@@ -34,10 +33,10 @@ IsOrder true h spans order = IsSerialRun h order × KeepsTime spans order
 abbrev pub HasOrder : Bool → List Transaction → List Span → Type 0
 HasOrder strict h spans = (order : List ℕ) × IsOrder strict h spans order
 
--- what a step says of its two transactions
-abbrev pub Shows : List Transaction → List Span → ℕ → ℕ → Why → Type 0
-Shows h spans t u (Observed reason) = Precedes h t u
-Shows h spans t u RealTime = (t ≢ u) × Ended h t Committed × EndedBefore spans t u
+-- what a step says of its two transactions: by its ground, or without one by real time
+abbrev pub Shows : List Transaction → List Span → ℕ → ℕ → Option Ground → Type 0
+Shows h spans t u (Some ground) = Precedes h t u
+Shows h spans t u None = (t ≢ u) × Ended h t Committed × EndedBefore spans t u
 
 -- a serial order is one, and in place of one a witness is found only if there is none
 abbrev pub IsFound : Bool → List Transaction → List Span → Finding → Type 0

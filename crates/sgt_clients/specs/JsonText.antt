@@ -1,18 +1,19 @@
 -- The text of a finding as one object of JSON.
-use Rattle.std.specs.Prelude.{◌++◌, ◌==◌, ℕ, Bool, if◌then◌else◌, List, [], ◌∷◌, codes}
+use Rattle.std.specs.Prelude.{◌++◌, ◌==◌, ℕ, Bool, if◌then◌else◌, List, [], ◌∷◌, Option, Some, None, codes}
 use Rattle.std.specs.List.{flat_map}
 use Rattle.std.specs.Fmt.{decimal}
 use Rattle.sgt_appends.specs.declared.transaction.Transaction.{Transaction}
 use Rattle.sgt_appends.specs.declared.witness.Reason.TheVariants.{Seen, Missed, InOrder}
+use Rattle.sgt_levels.specs.declared.tie.Ground.{Ground}
+use Rattle.sgt_levels.specs.declared.tie.Ground.TheVariants.{Observed, Late, Wait}
+use Rattle.sgt_levels.specs.declared.tie.Passage.{Passage}
+use Rattle.sgt_levels.specs.declared.tie.Tie.{Tie}
 use Rattle.sgt_format.specs.Templates.{filled}
 use Rattle.sgt_clients.specs.declared.clients.Clients.{Clients}
-use Rattle.sgt_clients.specs.declared.finding.Why.{Why}
-use Rattle.sgt_clients.specs.declared.finding.Why.TheVariants.{Observed, RealTime}
-use Rattle.sgt_clients.specs.declared.finding.Step.{Step}
 use Rattle.sgt_clients.specs.declared.finding.Finding.{Finding}
 use Rattle.sgt_clients.specs.declared.finding.Finding.TheVariants as finding
 use Rattle.sgt_clients.specs.Findings.{is_order}
-use Rattle.sgt_clients.specs.ReportText.{from_one, entry_of, why_text, fault_text, counts_of}
+use Rattle.sgt_clients.specs.ReportText.{from_one, entry_of, ground_text, passage_of, fault_text, counts_of}
 
 -- `true` or `false`
 abbrev pub truth_text : Bool → List ℕ
@@ -40,21 +41,24 @@ abbrev pub number_text : ℕ → List ℕ
 number_text t = decimal (from_one t)
 
 -- the kind of the reason of a step
-abbrev pub because_text : Why → List ℕ
-because_text (Observed (Seen append read)) = codes "seen"
-because_text (Observed (Missed read append)) = codes "missed"
-because_text (Observed (InOrder first second reader read)) = codes "in order"
-because_text RealTime = codes "real time"
+abbrev pub ground_word : Option Ground → List ℕ
+ground_word (Some (Observed (Seen append read))) = codes "seen"
+ground_word (Some (Observed (Missed read append))) = codes "missed"
+ground_word (Some (Observed (InOrder first second reader read))) = codes "in order"
+ground_word (Some (Late first second reader read)) = codes "late"
+ground_word (Some (Wait first second read append)) = codes "wait"
+ground_word None = codes "real time"
 
--- the step from transaction t to u: both, their entries, the kind of the reason, and the reason
-abbrev pub link_object : Clients → ℕ → ℕ → List ℕ → List ℕ → List ℕ
-link_object c t u because why =
+-- a step of a cycle: both transactions, their entries, the kind of the reason, and the reason
+abbrev pub step_object : Clients → Passage → List ℕ
+step_object c s =
     filled (codes "{\"from\":#,\"to\":#,\"from_entry\":#,\"to_entry\":#,\"because\":\"#\",\"why\":\"#\"}")
-    (decimal (from_one t) ∷ decimal (from_one u) ∷ decimal (entry_of c t) ∷ decimal (entry_of c u) ∷ because ∷ why ∷ [])
+    (decimal (from_one s.from) ∷ decimal (from_one s.to) ∷ decimal (entry_of c s.from) ∷ decimal (entry_of c s.to) ∷ ground_word s.ground
+    ∷ ground_text c s.from s.to s.ground ∷ [])
 
--- a step of a cycle
-abbrev pub step_object : Clients → Step → List ℕ
-step_object c s = link_object c s.from s.to (because_text s.why) (why_text c s.from s.to s.why)
+-- a tie
+abbrev pub tie_object : Clients → Tie → List ℕ
+tie_object c tie = step_object c (passage_of tie)
 
 -- the member that names the anomaly
 abbrev pub anomaly_member : List ℕ → List ℕ

@@ -9,8 +9,6 @@ use Rattle.sgt_levels.specs.declared.levels.Committed.TheVariants as committed
 use Rattle.sgt_levels.specs.declared.levels.Snapshot.{Snapshot}
 use Rattle.sgt_levels.specs.declared.levels.Snapshot.TheVariants as snapshot
 use Rattle.sgt_levels.specs.declared.search.Snapshots.{Snapshots}
-use Rattle.sgt_levels.specs.declared.tie.Ground.{Ground}
-use Rattle.sgt_levels.specs.declared.tie.Ground.TheVariants.{Seen, InOrder, Late, Wait, Missed}
 use Rattle.sgt_levels.specs.declared.tie.Tie.{Tie}
 use Rattle.sgt_levels.specs.declared.unseen.Unseen.{Unseen}
 use Rattle.sgt_format.specs.Templates.{filled}
@@ -20,11 +18,9 @@ use Rattle.sgt_clients.specs.declared.level.Answer.TheVariants.{Yes, No, Undecid
 use Rattle.sgt_clients.specs.declared.level.Level.{Level}
 use Rattle.sgt_clients.specs.declared.level.Level.TheVariants.{ReadUncommitted, ReadCommitted, SnapshotIsolation, Serializable, StrictSerializable}
 use Rattle.sgt_clients.specs.declared.level_findings.LevelFindings.{LevelFindings}
-use Rattle.sgt_clients.specs.JsonText.{list_text, link_object, anomaly_member, order_member, cycle_member, reader_members, finding_members}
+use Rattle.sgt_clients.specs.JsonText.{list_text, tie_object, anomaly_member, order_member, cycle_member, reader_members, finding_members}
 use Rattle.sgt_clients.specs.Levels.{answer_of, strongest_of}
-use Rattle.sgt_clients.specs.ReportText.{fault_text}
-use Rattle.sgt_clients.specs.TieText.{ground_text, partial_text}
-use Rattle.sgt_clients.specs.UnseenText.{unseen_in}
+use Rattle.sgt_clients.specs.ReportText.{fault_text, partial_text, unseen_in}
 
 -- the name of a level, as the option spells it, in quotes
 abbrev pub level_code : Level → List ℕ
@@ -48,18 +44,6 @@ answer_text Undecided = codes "undecided"
 -- the beginning of the object of a level: whether it holds
 abbrev pub holds_text : Level → Answer → List ℕ
 holds_text level answer = filled (codes "#:{\"holds\":\"#\"") (level_code level ∷ answer_text answer ∷ [])
-
--- the kind of the reason of a tie
-abbrev pub ground_word : Ground → List ℕ
-ground_word (Seen append read) = codes "seen"
-ground_word (InOrder first second reader read) = codes "in order"
-ground_word (Late first second reader read) = codes "late"
-ground_word (Wait first second read append) = codes "wait"
-ground_word (Missed read append) = codes "missed"
-
--- a tie
-abbrev pub tie_object : Clients → Tie → List ℕ
-tie_object c tie = link_object c tie.from tie.to (ground_word tie.ground) (ground_text c tie.from tie.to tie.ground)
 
 -- the anomaly, and its cycle of ties
 abbrev pub ties_members : Clients → List ℕ → List Tie → List ℕ

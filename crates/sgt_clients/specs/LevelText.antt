@@ -12,16 +12,12 @@ use Rattle.sgt_levels.specs.declared.tie.Tie.{Tie}
 use Rattle.sgt_levels.specs.declared.unseen.Unseen.{Unseen}
 use Rattle.sgt_format.specs.Templates.{filled}
 use Rattle.sgt_clients.specs.declared.clients.Clients.{Clients}
-use Rattle.sgt_clients.specs.declared.finding.Finding.{Finding}
-use Rattle.sgt_clients.specs.declared.finding.Finding.TheVariants as finding
 use Rattle.sgt_clients.specs.declared.level.Level.{Level}
 use Rattle.sgt_clients.specs.declared.level.Level.TheVariants.{ReadUncommitted, ReadCommitted, SnapshotIsolation, Serializable, StrictSerializable}
 use Rattle.sgt_clients.specs.declared.level_findings.LevelFindings.{LevelFindings}
 use Rattle.sgt_clients.specs.declared.level_findings.Weaker.{Weaker}
 use Rattle.sgt_clients.specs.Levels.{strongest_of}
-use Rattle.sgt_clients.specs.ReportText.{step_text, fault_line}
-use Rattle.sgt_clients.specs.TieText.{tie_text, partial_line}
-use Rattle.sgt_clients.specs.UnseenText.{unseen_in}
+use Rattle.sgt_clients.specs.ReportText.{tie_text, partial_line, fault_line, unseen_in, witness_text}
 
 -- the name of a level
 abbrev pub level_words : Level → List ℕ
@@ -93,15 +89,9 @@ abbrev pub snapshot_text : Clients → Weaker → List ℕ
 snapshot_text c w =
     if w.snapshot_above then above_text SnapshotIsolation else split_text c w.snapshot_name.now w.unseen w.levels.snapshot
 
--- the lines of a finding that is no order
-abbrev pub unserial_text : Clients → Finding → List ℕ
-unserial_text c (finding.Serial order) = []
-unserial_text c (finding.Cycle steps name) = not_text Serializable name.now ++ flat_map (step_text c) steps.items
-unserial_text c (finding.Fault reader read fault name) = not_text Serializable name.now ++ fault_line c reader read fault
-
 -- what breaks serializability, if there is a finding of its own on that, unless the lines before say it
 abbrev pub untimed_text : Clients → LevelFindings → List ℕ
-untimed_text c f = if f.serial_above then above_text Serializable else option_map_or (unserial_text c) f.untimed []
+untimed_text c f = if f.serial_above then above_text Serializable else option_map_or (witness_text (codes "not serializable: #\n") c) f.untimed []
 
 -- what breaks the level after the strongest one, unless the lines before say it
 abbrev pub next_text : Clients → LevelFindings → Option Level → List ℕ

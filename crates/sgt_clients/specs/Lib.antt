@@ -17,7 +17,5 @@ pub mod Pieces
 pub mod Reading
 pub mod ReportText
 pub mod Reports
-pub mod TieText
 pub mod Times
-pub mod UnseenText
 pub mod Values

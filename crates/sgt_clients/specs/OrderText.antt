@@ -1,29 +1,16 @@
 -- The lines and members on the orders that a snapshot run keeps.
 use Rattle.std.specs.Prelude.{◌++◌, List, ℕ, [], ◌∷◌, Option, Some, None, codes, if◌then◌else◌}
 use Rattle.std.specs.List.{flat_map}
-use Rattle.sgt_levels.specs.declared.tie.Passage.{Passage}
-use Rattle.sgt_levels.specs.declared.tie.Ground.{Ground}
 use Rattle.sgt_format.specs.Templates.{filled}
 use Rattle.sgt_clients.specs.declared.clients.Clients.{Clients}
-use Rattle.sgt_clients.specs.declared.finding.Why.TheVariants.{RealTime}
 use Rattle.sgt_clients.specs.declared.level.Answer.{Answer}
 use Rattle.sgt_clients.specs.declared.level.Answer.TheVariants.{Yes, No, Undecided}
 use Rattle.sgt_clients.specs.declared.orders.Kept.{Kept}
 use Rattle.sgt_clients.specs.declared.orders.Kept.TheVariants as kept
 use Rattle.sgt_clients.specs.declared.orders.KeptOrders.{KeptOrders}
-use Rattle.sgt_clients.specs.JsonText.{cycle_member, link_object, because_text}
-use Rattle.sgt_clients.specs.LevelJson.{answer_text, run_members, ground_word}
-use Rattle.sgt_clients.specs.ReportText.{link_text, why_text}
-use Rattle.sgt_clients.specs.TieText.{ground_text}
-
--- the line of a tie, or without a ground of a step of real time
-abbrev pub ground_line : Clients → ℕ → ℕ → Option Ground → List ℕ
-ground_line c t u (Some g) = link_text c t u (ground_text c t u g)
-ground_line c t u None = link_text c t u (why_text c t u RealTime)
-
--- the line of a passage
-abbrev pub passage_text : Clients → Passage → List ℕ
-passage_text c p = ground_line c p.from p.to p.ground
+use Rattle.sgt_clients.specs.JsonText.{cycle_member, step_object}
+use Rattle.sgt_clients.specs.LevelJson.{answer_text, run_members}
+use Rattle.sgt_clients.specs.ReportText.{step_text}
 
 -- whether a run keeps an order
 abbrev pub kept_answer : Kept → Answer
@@ -38,7 +25,7 @@ abbrev pub kept_lines : Clients → Kept → List ℕ
 kept_lines c kept.Implied = codes "\n"
 kept_lines c (kept.Run run) = codes "\n"
 kept_lines c kept.NotSnapshot = codes "\n"
-kept_lines c (kept.Cycle passages) = codes ":\n" ++ flat_map (passage_text c) passages.items
+kept_lines c (kept.Cycle passages) = codes ":\n" ++ flat_map (step_text c) passages.items
 kept_lines c kept.Open = codes "\n"
 
 -- whether a run keeps the order of this name, and what leaves none
@@ -56,21 +43,12 @@ abbrev pub orders_text : Clients → Option KeptOrders → List ℕ
 orders_text c None = []
 orders_text c (Some o) = strong_text c o ++ kept_text (codes "session") c o.session
 
--- the object of a tie, or without a ground of a step of real time
-abbrev pub ground_object : Clients → ℕ → ℕ → Option Ground → List ℕ
-ground_object c t u (Some g) = link_object c t u (ground_word g) (ground_text c t u g)
-ground_object c t u None = link_object c t u (because_text RealTime) (why_text c t u RealTime)
-
--- the object of a passage
-abbrev pub passage_object : Clients → Passage → List ℕ
-passage_object c p = ground_object c p.from p.to p.ground
-
 -- the run, or the cycle that leaves none
 abbrev pub kept_members : Clients → Kept → List ℕ
 kept_members c kept.Implied = []
 kept_members c (kept.Run run) = run_members run
 kept_members c kept.NotSnapshot = []
-kept_members c (kept.Cycle passages) = cycle_member (passage_object c) passages.items
+kept_members c (kept.Cycle passages) = cycle_member (step_object c) passages.items
 kept_members c kept.Open = []
 
 -- the member of the order of this name

@@ -5,9 +5,7 @@ use Rattle.sgt_clients.specs.declared.part.Part.{Part}
 use Rattle.sgt_clients.specs.declared.part.Part.TheVariants as part
 use Rattle.sgt_clients.specs.declared.piece.Piece.{Piece}
 use Rattle.sgt_clients.specs.declared.piece.Piece.TheVariants as piece
-use Rattle.sgt_clients.specs.ReportText.{transaction_text, placed, key_text, values_text, value_at, key_at, read_at, placed_read, fault_text, why_text}
-use Rattle.sgt_clients.specs.TieText.{ground_text, partial_text}
-use Rattle.sgt_clients.specs.UnseenText.{unseen_text}
+use Rattle.sgt_clients.specs.ReportText.{transaction_text, placed, key_text, values_text, value_at, key_at, read_at, placed_read, fault_text, ground_text, partial_text, unseen_text}
 use Rattle.sgt_clients.specs.Values.{value_text}
 
 -- the text of a piece
@@ -31,5 +29,4 @@ part_text (part.Placed c t) = placed c.now t
 part_text (part.Fault c reader read fault) = fault_text c.now reader read fault.now
 part_text (part.Partial c partial) = partial_text c.now partial.now
 part_text (part.Unseen c it) = unseen_text c.now it.now
-part_text (part.Why c t u why) = why_text c.now t u why
-part_text (part.Ground c t u why) = ground_text c.now t u why
+part_text (part.Why c step) = ground_text c.now step.from step.to step.ground

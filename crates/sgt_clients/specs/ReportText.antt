@@ -12,13 +12,16 @@ use Rattle.sgt_appends.specs.declared.fault.Fault.{Fault}
 use Rattle.sgt_appends.specs.declared.fault.Fault.TheVariants as fault
 use Rattle.sgt_appends.specs.declared.witness.Reason.{Reason}
 use Rattle.sgt_appends.specs.declared.witness.Reason.TheVariants.{Seen, Missed, InOrder}
+use Rattle.sgt_levels.specs.declared.tie.Ground.{Ground}
+use Rattle.sgt_levels.specs.declared.tie.Ground.TheVariants.{Observed, Late, Wait}
+use Rattle.sgt_levels.specs.declared.tie.Passage.{Passage}
+use Rattle.sgt_levels.specs.declared.tie.Tie.{Tie}
+use Rattle.sgt_levels.specs.declared.survey.Partial.{Partial}
+use Rattle.sgt_levels.specs.declared.unseen.Unseen.{Unseen}
 use Rattle.sgt_format.specs.Templates.{filled}
 use Rattle.sgt_clients.specs.declared.clients.Clients.{Clients}
 use Rattle.sgt_clients.specs.declared.clients.Span.{Span}
 use Rattle.sgt_clients.specs.declared.evidence.Spoken.{Spoken}
-use Rattle.sgt_clients.specs.declared.finding.Why.{Why}
-use Rattle.sgt_clients.specs.declared.finding.Why.TheVariants.{Observed, RealTime}
-use Rattle.sgt_clients.specs.declared.finding.Step.{Step}
 use Rattle.sgt_clients.specs.declared.finding.Finding.{Finding}
 use Rattle.sgt_clients.specs.declared.finding.Finding.TheVariants as finding
 use Rattle.sgt_clients.specs.Evidence.{put_of, seen_of}
@@ -146,18 +149,45 @@ reason_text c t u (InOrder first second reader read) =
     (placed_read c reader read (of_two (value_of (operation_at c t first)) (value_of (operation_at c u second)))
     ∷ value_at c t first ∷ transaction_text t ∷ value_at c u second ∷ transaction_text u ∷ [])
 
--- the reason of a step
-abbrev pub why_text : Clients → ℕ → ℕ → Why → List ℕ
-why_text c t u (Observed reason) = reason_text c t u reason
-why_text c t u RealTime = filled (codes "# ended before # began") (transaction_text t ∷ transaction_text u ∷ [])
+-- why transaction t comes before u: by a ground, or without one by real time
+abbrev pub ground_text : Clients → ℕ → ℕ → Option Ground → List ℕ
+ground_text c t u (Some (Observed reason)) = reason_text c t u reason
+ground_text c t u (Some (Late first second reader read)) =
+    filled (codes "#, with # of # and without # of #")
+    (placed_read c reader read (of_one (value_of (operation_at c t first))) ∷ value_at c t first ∷ transaction_text t ∷ value_at c u second
+    ∷ transaction_text u ∷ [])
+ground_text c t u (Some (Wait first second read append)) = reason_text c t u (Missed read append)
+    ++ filled (codes ", and both append to key #") (key_at c t first ∷ [])
+ground_text c t u None = filled (codes "# ended before # began") (transaction_text t ∷ transaction_text u ∷ [])
 
--- the line that transaction t comes before u, with the reason
-abbrev pub link_text : Clients → ℕ → ℕ → List ℕ → List ℕ
-link_text c t u why = filled (codes "  # before #: #\n") (placed c t ∷ placed c u ∷ why ∷ [])
+-- the line of a step: that one transaction comes before another, and why
+abbrev pub step_text : Clients → Passage → List ℕ
+step_text c s = filled (codes "  # before #: #\n") (placed c s.from ∷ placed c s.to ∷ ground_text c s.from s.to s.ground ∷ [])
 
--- the line of a step
-abbrev pub step_text : Clients → Step → List ℕ
-step_text c s = link_text c s.from s.to (why_text c s.from s.to s.why)
+-- the step of a tie
+abbrev pub passage_of : Tie → Passage
+passage_of tie = record { from = tie.from; to = tie.to; ground = Some tie.ground }
+
+-- the line of a tie
+abbrev pub tie_text : Clients → Tie → List ℕ
+tie_text c tie = step_text c (passage_of tie)
+
+-- a partial read: a value that was seen, and one of the same transaction that was not
+abbrev pub partial_text : Clients → Partial → List ℕ
+partial_text c p =
+    filled (codes "#, with # and without #, both of #")
+    (placed_read c p.reader p.read (of_one (value_of (operation_at c p.by p.seen))) ∷ value_at c p.by p.seen ∷ value_at c p.by p.missed
+    ∷ placed c p.by ∷ [])
+
+-- which read would show the order of two appends
+abbrev pub unseen_text : Clients → Unseen → List ℕ
+unseen_text c it =
+    filled (codes "read key # at the end: it would show the order of # of # and # of #")
+    (key_at c it.one it.first ∷ value_at c it.one it.first ∷ placed c it.one ∷ value_at c it.other it.second ∷ placed c it.other ∷ [])
+
+-- the same in place of the mark of a template, if there are two such appends
+abbrev pub unseen_in : List ℕ → Clients → Option Unseen → List ℕ
+unseen_in template c unseen = option_map_or (λ it. filled template (unseen_text c it ∷ [])) unseen []
 
 -- what is wrong with this read of the reader, of which these values are spoken of
 abbrev pub wrong_text : Clients → ℕ → List ℕ → Spoken → Fault → List ℕ
@@ -238,19 +268,24 @@ abbrev pub order_text : List ℕ → List ℕ
 order_text [] = codes " none"
 order_text (t ∷ ts) = shown_order (t ∷ ts)
 
--- the line that names the anomaly
-abbrev pub no_text : List ℕ → List ℕ
-no_text name = filled (codes "serializable no: #\n") (name ∷ [])
-
 -- the line of a read, and what is wrong with it
 abbrev pub fault_line : Clients → ℕ → ℕ → Fault → List ℕ
 fault_line c reader read fault = filled (codes "  #\n") (fault_text c reader read fault ∷ [])
 
+-- the line of a partial read
+abbrev pub partial_line : Clients → Partial → List ℕ
+partial_line c p = filled (codes "  #\n") (partial_text c p ∷ [])
+
+-- the line that names the anomaly, by a template, and the lines of the cycle or the read; nothing of an order
+abbrev pub witness_text : List ℕ → Clients → Finding → List ℕ
+witness_text template c (finding.Serial order) = []
+witness_text template c (finding.Cycle steps name) = filled template (name.now ∷ []) ++ flat_map (step_text c) steps.items
+witness_text template c (finding.Fault reader read fault name) = filled template (name.now ∷ []) ++ fault_line c reader read fault
+
 -- the lines of a finding
 abbrev pub finding_text : Clients → Finding → List ℕ
 finding_text c (finding.Serial order) = codes "serializable yes:" ++ order_text order.items ++ codes "\n"
-finding_text c (finding.Cycle steps name) = no_text name.now ++ flat_map (step_text c) steps.items
-finding_text c (finding.Fault reader read fault name) = no_text name.now ++ fault_line c reader read fault
+finding_text c f = witness_text (codes "serializable no: #\n") c f
 
 -- the lines of the verdict
 abbrev pub verdict_text : Bool → Clients → Finding → List ℕ

@@ -9,34 +9,19 @@ use crate::clients::Clients;
 use crate::fault::ClientsFault;
 use crate::names::{cycle_name, name_text};
 use crate::twice::twice_fault;
-use sgt_appends::{Anomaly, Edge, Fault, Reason, Verdict, Witness, check_appends, name_of};
+use sgt_appends::{Anomaly, Edge, Fault, Verdict, Witness, check_appends, name_of};
+use sgt_levels::{Ground, Passage};
 use sgt_model::NoMemory;
 use std::alloc::Global;
-
-/// Why one transaction comes before another in each order.
-#[derive(Clone, Copy, Debug, PartialEq, Eq)]
-pub enum Why {
-    /// By what was observed.
-    Observed(Reason),
-    /// It ended before the other began.
-    RealTime,
-}
-
-/// A step of a cycle: one transaction comes before another.
-#[derive(Clone, Copy, Debug, PartialEq, Eq)]
-pub struct Step {
-    pub from: usize,
-    pub to: usize,
-    pub why: Why,
-}
 
 /// What a check finds.
 #[derive(Drop)]
 pub enum Finding {
     /// A serial order.
     Serial(Vec<usize>),
-    /// A cycle of transactions, each of which comes before the next, and the name of the anomaly.
-    Cycle(Vec<Step>, &'static str),
+    /// A cycle of transactions, each of which comes before the next, and the name of the anomaly. A step without a ground is
+    /// of real time: the one ended before the other began.
+    Cycle(Vec<Passage>, &'static str),
     /// A read that no order explains: its transaction, its position there, and the name of the anomaly.
     Fault {
         reader: usize,
@@ -97,13 +82,13 @@ fn finding_of(alloc: Global, witness: Witness, anomaly: Anomaly) -> Result<Findi
 }
 
 /// The edges as steps.
-fn steps_of(alloc: Global, edges: &[Edge]) -> Result<Vec<Step>, NoMemory> {
+fn steps_of(alloc: Global, edges: &[Edge]) -> Result<Vec<Passage>, NoMemory> {
     let mut steps = Vec::with_capacity(alloc, edges.len())?;
     for edge in edges {
-        steps.push(Step {
+        steps.push(Passage {
             from: edge.from,
             to: edge.to,
-            why: Why::Observed(edge.reason),
+            ground: Some(Ground::Observed(edge.reason)),
         })?;
     }
     Ok(steps)

@@ -4,9 +4,10 @@ ghost use Rattle.std.specs.Prelude.{◌≡◌, ◌++◌, flat_map, OnOk};
 ghost use Rattle.sgt_clients.specs.GraphText.{node_text, source_text, arrow_text, graph_lines, graph_text};
 
 use crate::clients::Clients;
-use crate::finding::{Finding, Step};
+use crate::finding::Finding;
 use crate::part::Part;
 use sgt_format::append_filled;
+use sgt_levels::Passage;
 use sgt_model::NoMemory;
 
 /// Appends the graph: the transactions of the serial order, or the cycle, or the transaction whose read is wrong.
@@ -68,7 +69,7 @@ fn append_nodes(text: &mut Vec<u8>, order: &[usize]) -> Result<(), NoMemory>
 }
 
 /// Appends the transactions from which the steps lead.
-fn append_sources(text: &mut Vec<u8>, clients: &Clients, steps: &[Step]) -> Result<(), NoMemory>
+fn append_sources(text: &mut Vec<u8>, clients: &Clients, steps: &[Passage]) -> Result<(), NoMemory>
     ensures { OnOk result (text.new.items ≡ text.old.items ++ flat_map (source_text clients.now) steps.now) }
 {
     for step in steps {
@@ -78,7 +79,7 @@ fn append_sources(text: &mut Vec<u8>, clients: &Clients, steps: &[Step]) -> Resu
 }
 
 /// Appends the transaction from which the step leads.
-fn append_source(text: &mut Vec<u8>, clients: &Clients, step: &Step) -> Result<(), NoMemory>
+fn append_source(text: &mut Vec<u8>, clients: &Clients, step: &Passage) -> Result<(), NoMemory>
     ensures { OnOk result (text.new.items ≡ text.old.items ++ source_text clients.now step.now) }
 {
     append_filled(
@@ -92,7 +93,7 @@ fn append_source(text: &mut Vec<u8>, clients: &Clients, step: &Step) -> Result<(
 }
 
 /// Appends the steps.
-fn append_arrows(text: &mut Vec<u8>, clients: &Clients, steps: &[Step]) -> Result<(), NoMemory>
+fn append_arrows(text: &mut Vec<u8>, clients: &Clients, steps: &[Passage]) -> Result<(), NoMemory>
     ensures { OnOk result (text.new.items ≡ text.old.items ++ flat_map (arrow_text clients.now) steps.now) }
 {
     for step in steps {
@@ -102,7 +103,7 @@ fn append_arrows(text: &mut Vec<u8>, clients: &Clients, steps: &[Step]) -> Resul
 }
 
 /// Appends a step.
-fn append_arrow(text: &mut Vec<u8>, clients: &Clients, step: &Step) -> Result<(), NoMemory>
+fn append_arrow(text: &mut Vec<u8>, clients: &Clients, step: &Passage) -> Result<(), NoMemory>
     ensures { OnOk result (text.new.items ≡ text.old.items ++ arrow_text clients.now step.now) }
 {
     append_filled(
@@ -111,7 +112,7 @@ fn append_arrow(text: &mut Vec<u8>, clients: &Clients, step: &Step) -> Result<()
         &[
             Part::Transaction(step.from),
             Part::Transaction(step.to),
-            Part::Why(clients, step.from, step.to, step.why),
+            Part::Why(clients, *step),
         ],
     )
 }

@@ -1,22 +1,24 @@
 //! The report as one object of JSON.
 
 ghost use Rattle.std.specs.Prelude.{◌≡◌, ◌++◌, OnOk};
-ghost use Rattle.sgt_clients.specs.JsonText.{truth_text, skipped_member, because_text, link_object, step_object, anomaly_member, order_member, cycle_member, reader_members, finding_members, counts_head, head_text};
+ghost use Rattle.sgt_clients.specs.JsonText.{truth_text, skipped_member, ground_word, step_object, tie_object, anomaly_member, order_member, cycle_member, reader_members, finding_members, counts_head, head_text};
 ghost use Rattle.sgt_clients.specs.Pieces.{part_text};
 ghost use Rattle.sgt_clients.specs.Reports.{json_text};
 
 use crate::anomaly_text::append_anomalies_member;
 use crate::clients::Clients;
 use crate::counts::count;
-use crate::finding::{Finding, Step, Why, is_serial};
+use crate::finding::{Finding, is_serial};
 use crate::item::{Item, append_list};
 use crate::level_findings::LevelFindings;
 use crate::level_json::append_levels;
 use crate::order_text::append_orders_members;
 use crate::part::Part;
 use crate::piece::entry_of;
+use crate::witness_text::passage_of;
 use sgt_appends::{Reason, Transaction};
 use sgt_format::append_filled;
+use sgt_levels::{Ground, Passage, Tie};
 use sgt_model::NoMemory;
 
 /// Appends the report as a line with one object of JSON. Transactions and entries are counted from 1.
@@ -150,49 +152,45 @@ pub(crate) fn append_cycle<I: Item>(
     append_list(text, clients, b",\"cycle\":[", links)
 }
 
-impl Item for Step {
+/// The step: both transactions, their entries, the kind of the reason, and the reason.
+impl Item for Passage {
     ghost object = { step_object };
 
     fn append_object(&self, text: &mut Vec<u8>, clients: &Clients) -> Result<(), NoMemory> {
-        let why = Part::Why(clients, self.from, self.to, self.why);
-        append_link(text, clients, self.from, self.to, because(&self.why), why)
+        append_filled(
+            text,
+            b"{\"from\":#,\"to\":#,\"from_entry\":#,\"to_entry\":#,\"because\":\"#\",\"why\":\"#\"}",
+            &[
+                Part::Number(self.from.saturating_add(1)),
+                Part::Number(self.to.saturating_add(1)),
+                Part::Number(entry_of(clients, self.from)),
+                Part::Number(entry_of(clients, self.to)),
+                Part::Words(ground_word(self.ground)),
+                Part::Why(clients, *self),
+            ],
+        )
     }
 }
 
-/// Appends the step from the first transaction to the second: both, their entries, the kind of its reason, and the reason.
-pub(crate) fn append_link<'a>(
-    text: &mut Vec<u8>,
-    clients: &Clients,
-    from: usize,
-    to: usize,
-    because: &'a [u8],
-    why: Part<'a>,
-) -> Result<(), NoMemory>
-    ensures { OnOk result (text.new.items ≡ text.old.items ++ link_object clients.now from to because.now (part_text why.entry)) }
+/// The kind of the reason of a step, in a word or two.
+fn ground_word(ground: Option<Ground>) -> &'static [u8]
+    ensures { result.now ≡ ground_word ground }
 {
-    append_filled(
-        text,
-        b"{\"from\":#,\"to\":#,\"from_entry\":#,\"to_entry\":#,\"because\":\"#\",\"why\":\"#\"}",
-        &[
-            Part::Number(from.saturating_add(1)),
-            Part::Number(to.saturating_add(1)),
-            Part::Number(entry_of(clients, from)),
-            Part::Number(entry_of(clients, to)),
-            Part::Words(because),
-            why,
-        ],
-    )
+    match ground {
+        Some(Ground::Observed(Reason::Seen { .. })) => b"seen",
+        Some(Ground::Observed(Reason::Missed { .. })) => b"missed",
+        Some(Ground::Observed(Reason::InOrder { .. })) => b"in order",
+        Some(Ground::Late { .. }) => b"late",
+        Some(Ground::Wait { .. }) => b"wait",
+        None => b"real time",
+    }
 }
 
-/// The kind of the reason, in a word or two.
-pub(crate) fn because(why: &Why) -> &'static [u8]
-    ensures { result.now ≡ because_text why.now }
-{
-    match why {
-        Why::Observed(Reason::Seen { .. }) => b"seen",
-        Why::Observed(Reason::Missed { .. }) => b"missed",
-        Why::Observed(Reason::InOrder { .. }) => b"in order",
-        Why::RealTime => b"real time",
+impl Item for Tie {
+    ghost object = { tie_object };
+
+    fn append_object(&self, text: &mut Vec<u8>, clients: &Clients) -> Result<(), NoMemory> {
+        passage_of(self).append_object(text, clients)
     }
 }
 

@@ -50,11 +50,9 @@ fn is_strict(level: Level) -> bool
     ensures { result ≡ is_strict level }
 {
     match level {
-        Level::ReadUncommitted => false,
-        Level::ReadCommitted => false,
-        Level::SnapshotIsolation => false,
-        Level::Serializable => false,
         Level::StrictSerializable => true,
+        Level::ReadUncommitted | Level::ReadCommitted | Level::SnapshotIsolation => false,
+        Level::Serializable => false,
     }
 }
 

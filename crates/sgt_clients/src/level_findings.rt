@@ -174,8 +174,7 @@ fn writes_answer(writes: &Writes) -> Answer
     ensures { result ≡ writes_answer writes.now }
 {
     match writes {
-        Writes::Implied => Answer::Yes,
-        Writes::Order(_) => Answer::Yes,
+        Writes::Implied | Writes::Order(_) => Answer::Yes,
         Writes::Cycle(_) => Answer::No,
         Writes::Open => Answer::Undecided,
     }
@@ -187,9 +186,7 @@ fn committed_answer(committed: &Committed) -> Answer
 {
     match committed {
         Committed::Run(_) => Answer::Yes,
-        Committed::Fault { .. } => Answer::No,
-        Committed::Partial(_) => Answer::No,
-        Committed::Cycle(_) => Answer::No,
+        Committed::Fault { .. } | Committed::Partial(_) | Committed::Cycle(_) => Answer::No,
         Committed::Open => Answer::Undecided,
     }
 }
@@ -200,8 +197,7 @@ fn snapshot_answer(snapshot: &Snapshot) -> Answer
 {
     match snapshot {
         Snapshot::Run(_) => Answer::Yes,
-        Snapshot::NotCommitted => Answer::No,
-        Snapshot::Cycle(_) => Answer::No,
+        Snapshot::NotCommitted | Snapshot::Cycle(_) => Answer::No,
         Snapshot::Open => Answer::Undecided,
     }
 }
@@ -342,8 +338,6 @@ fn unseen_of(
 {
     match snapshot {
         Snapshot::Open => unseen_appends(alloc, history),
-        Snapshot::Run(_) => Ok(None),
-        Snapshot::NotCommitted => Ok(None),
-        Snapshot::Cycle(_) => Ok(None),
+        Snapshot::Run(_) | Snapshot::NotCommitted | Snapshot::Cycle(_) => Ok(None),
     }
 }

@@ -3,19 +3,16 @@
 ghost use Rattle.std.specs.Prelude.{◌≡◌, ◌++◌, codes, flat_map, OnOk};
 ghost use Rattle.std.specs.Fmt.{decimal};
 ghost use Rattle.sgt_clients.specs.JsonText.{next_item, items_text, list_text};
-ghost use Rattle.sgt_clients.specs.LevelJson.{level_code, strongest_code, answer_text, holds_text, ground_word, tie_object, ties_members, ordered_members, evidence_members, run_members, split_members, strict_object, level_objects, strongest_member, levels_members, next_object, level_object, level_members};
+ghost use Rattle.sgt_clients.specs.LevelJson.{level_code, strongest_code, answer_text, holds_text, ties_members, ordered_members, evidence_members, run_members, split_members, strict_object, level_objects, strongest_member, levels_members, next_object, level_object, level_members};
 
 use crate::clients::Clients;
-use crate::item::Item;
-use crate::json_text::{
-    append_cycle, append_finding, append_link, append_name, append_order, append_reader,
-};
+use crate::json_text::{append_cycle, append_finding, append_name, append_order, append_reader};
 use crate::level::{Answer, Level};
 use crate::level_findings::LevelFindings;
 use crate::part::Part;
-use crate::unseen_text::append_unseen_in;
+use crate::witness_text::append_unseen_in;
 use sgt_format::{append_filled, append_number, append_numbered};
-use sgt_levels::{Committed, Ground, Snapshot, Snapshots, Tie, Unseen, Writes};
+use sgt_levels::{Committed, Snapshot, Snapshots, Tie, Unseen, Writes};
 use sgt_model::NoMemory;
 
 /// Appends the members on the strongest level, and on each level.
@@ -257,35 +254,6 @@ fn append_evidence(
         }
         Committed::Cycle(ties) => append_ties(text, clients, name, ties.as_slice()),
         Committed::Open => Ok(()),
-    }
-}
-
-impl Item for Tie {
-    ghost object = { tie_object };
-
-    fn append_object(&self, text: &mut Vec<u8>, clients: &Clients) -> Result<(), NoMemory> {
-        let why = Part::Ground(clients, self.from, self.to, self.ground);
-        append_link(
-            text,
-            clients,
-            self.from,
-            self.to,
-            ground_word(self.ground),
-            why,
-        )
-    }
-}
-
-/// The kind of the reason of a tie, in a word or two.
-pub(crate) fn ground_word(ground: Ground) -> &'static [u8]
-    ensures { result.now ≡ ground_word ground }
-{
-    match ground {
-        Ground::Seen { .. } => b"seen",
-        Ground::InOrder { .. } => b"in order",
-        Ground::Late { .. } => b"late",
-        Ground::Wait { .. } => b"wait",
-        Ground::Missed { .. } => b"missed",
     }
 }
 

@@ -1,16 +1,15 @@
 //! The lines on the levels of isolation: the strongest that holds, and what breaks the next one.
 
 ghost use Rattle.std.specs.Prelude.{◌≡◌, ◌++◌, flat_map, OnOk};
-ghost use Rattle.sgt_clients.specs.LevelText.{level_words, strongest_words, strongest_text, not_text, above_text, undecided_text, ties_text, unordered_text, broken_text, committed_text, open_text, split_text, snapshot_text, unserial_text, untimed_text, next_text, levels_text};
-ghost use Rattle.sgt_clients.specs.TieText.{tie_text, partial_line};
+ghost use Rattle.sgt_clients.specs.LevelText.{level_words, strongest_words, strongest_text, not_text, above_text, undecided_text, ties_text, unordered_text, broken_text, committed_text, open_text, split_text, snapshot_text, untimed_text, next_text, levels_text};
+ghost use Rattle.sgt_clients.specs.ReportText.{tie_text, partial_line};
 
 use crate::clients::Clients;
-use crate::finding::Finding;
 use crate::level::Level;
 use crate::level_findings::{LevelFindings, Weaker};
 use crate::part::Part;
-use crate::report_text::{append_fault_line, append_link, append_steps};
-use crate::unseen_text::append_unseen_in;
+use crate::report_text::{append_fault_line, append_step, append_witness};
+use crate::witness_text::{append_unseen_in, passage_of};
 use sgt_format::append_filled;
 use sgt_levels::{Committed, Partial, Snapshot, Tie, Unseen, Writes};
 use sgt_model::NoMemory;
@@ -88,8 +87,7 @@ fn append_next(
             None => Ok(()),
         },
         Some(Level::SnapshotIsolation) => append_untimed(text, clients, found),
-        Some(Level::Serializable) => Ok(()),
-        Some(Level::StrictSerializable) => Ok(()),
+        Some(Level::Serializable | Level::StrictSerializable) => Ok(()),
     }
 }
 
@@ -144,8 +142,7 @@ pub(crate) fn append_ties(
     ensures { OnOk result (text.new.items ≡ text.old.items ++ flat_map (tie_text clients.now) ties.now) }
 {
     for tie in ties {
-        let why = Part::Ground(clients, tie.from, tie.to, tie.ground);
-        append_link(text, clients, tie.from, tie.to, why)?;
+        append_step(text, clients, &passage_of(tie))?;
     }
     Ok(())
 }
@@ -171,8 +168,7 @@ fn append_unordered(
     ensures { OnOk result (text.new.items ≡ text.old.items ++ unordered_text clients.now name.now writes.now) }
 {
     match writes {
-        Writes::Implied => Ok(()),
-        Writes::Order(_) => Ok(()),
+        Writes::Implied | Writes::Order(_) => Ok(()),
         Writes::Cycle(ties) => append_not_ties(
             text,
             clients,
@@ -260,8 +256,7 @@ fn append_split(
     ensures { OnOk result (text.new.items ≡ text.old.items ++ split_text clients.now name.now unseen.now snapshot.now) }
 {
     match snapshot {
-        Snapshot::Run(_) => Ok(()),
-        Snapshot::NotCommitted => Ok(()),
+        Snapshot::Run(_) | Snapshot::NotCommitted => Ok(()),
         Snapshot::Cycle(ties) => append_not_ties(
             text,
             clients,
@@ -299,29 +294,7 @@ fn append_untimed(
         return append_above(text, Level::Serializable);
     }
     match &found.untimed {
-        Some(finding) => append_unserial(text, clients, finding),
+        Some(finding) => append_witness(text, clients, b"not serializable: #\n", finding),
         None => Ok(()),
-    }
-}
-
-/// Appends the lines of a finding that is no order.
-fn append_unserial(text: &mut Vec<u8>, clients: &Clients, finding: &Finding) -> Result<(), NoMemory>
-    ensures { OnOk result (text.new.items ≡ text.old.items ++ unserial_text clients.now finding.now) }
-{
-    match finding {
-        Finding::Serial(_) => Ok(()),
-        Finding::Cycle(steps, name) => {
-            append_not(text, Level::Serializable, name)?;
-            append_steps(text, clients, steps.as_slice())
-        }
-        Finding::Fault {
-            reader,
-            read,
-            fault,
-            name,
-        } => {
-            append_not(text, Level::Serializable, name)?;
-            append_fault_line(text, clients, *reader, *read, fault)
-        }
     }
 }

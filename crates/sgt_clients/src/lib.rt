@@ -61,15 +61,13 @@ mod run;
 mod scene;
 mod strict;
 mod stroke_text;
-mod tie_text;
 mod twice;
-mod unseen_text;
 mod witness_text;
 
 pub use anomalies::{Example, Seen};
 pub use clients::{Alone, Clients, Event, Span, read_clients};
 pub use fault::{ClientsFault, Flaw, Position};
-pub use finding::{Finding, Step, Why, check_clients};
+pub use finding::{Finding, check_clients};
 pub use graph_text::append_graph;
 pub use hint::Hint;
 pub use json_text::append_json;

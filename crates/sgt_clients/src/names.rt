@@ -1,9 +1,9 @@
 //! The names of anomalies, as Adya (1999) and Elle (2020) spell them.
 
-use crate::finding::{Finding, Step, Why};
+use crate::finding::Finding;
 use crate::orders::Kept;
 use sgt_appends::{Anomaly, Reason, Transaction, Witness, append_at, name_of};
-use sgt_levels::{Committed, Ground, Snapshot, Tie, Writes};
+use sgt_levels::{Committed, Ground, Passage, Snapshot, Tie, Writes};
 
 /// The name of the anomaly.
 pub(crate) fn name_text(anomaly: Anomaly) -> &'static str {
@@ -33,7 +33,7 @@ fn strict_name_text(anomaly: Anomaly) -> &'static str {
 }
 
 /// The name of a cycle of these steps, of which two or more may be by a missed append.
-pub(crate) fn cycle_name(anomaly: Anomaly, steps: &[Step]) -> &'static str {
+pub(crate) fn cycle_name(anomaly: Anomaly, steps: &[Passage]) -> &'static str {
     match anomaly {
         Anomaly::G2Item if !misses_in_a_row(steps) => "G-nonadjacent",
         _ => name_text(anomaly),
@@ -41,7 +41,7 @@ pub(crate) fn cycle_name(anomaly: Anomaly, steps: &[Step]) -> &'static str {
 }
 
 /// The name of a cycle of these steps, some of which are of real time.
-pub(crate) fn strict_cycle_name(anomaly: Anomaly, steps: &[Step]) -> &'static str {
+pub(crate) fn strict_cycle_name(anomaly: Anomaly, steps: &[Passage]) -> &'static str {
     match anomaly {
         Anomaly::G2Item if !misses_in_a_row(steps) => "G-nonadjacent-realtime",
         _ => strict_name_text(anomaly),
@@ -49,7 +49,7 @@ pub(crate) fn strict_cycle_name(anomaly: Anomaly, steps: &[Step]) -> &'static st
 }
 
 /// Whether two steps in a row are by a missed append. The first step comes after the last.
-fn misses_in_a_row(steps: &[Step]) -> bool {
+fn misses_in_a_row(steps: &[Passage]) -> bool {
     let mut before = match steps.last() {
         Some(step) => is_miss(step),
         None => false,
@@ -65,8 +65,8 @@ fn misses_in_a_row(steps: &[Step]) -> bool {
 }
 
 /// Whether the step is by a missed append.
-fn is_miss(step: &Step) -> bool {
-    matches!(step.why, Why::Observed(Reason::Missed { .. }))
+fn is_miss(step: &Passage) -> bool {
+    matches!(step.ground, Some(Ground::Observed(Reason::Missed { .. })))
 }
 
 /// The name of what leaves no write order.
@@ -108,7 +108,10 @@ pub(crate) fn breaks_committed(finding: &Finding, committed: &Committed) -> bool
             },
         ) => { *reader == *other && *read == *place }
         (Finding::Cycle(steps, _), Committed::Cycle(ties)) => {
-            steps.len() <= ties.len() && misses_and_times(steps.as_slice()) == 0
+            steps.len() <= ties.len()
+                && !steps
+                    .iter()
+                    .any(|step| is_miss(step) || step.ground.is_none())
         }
         _ => false,
     }
@@ -153,34 +156,13 @@ pub(crate) fn breaks_strong(finding: &Finding, strong: &Kept) -> bool {
 }
 
 /// Whether a step is of real time.
-fn has_times(steps: &[Step]) -> bool {
-    for step in steps {
-        if step.why == Why::RealTime {
-            return true;
-        }
-    }
-    false
-}
-
-/// How many steps are by a missed append, or of real time.
-fn misses_and_times(steps: &[Step]) -> usize {
-    let mut count = 0_usize;
-    for step in steps {
-        if is_miss(step) || step.why == Why::RealTime {
-            count = count.saturating_add(1);
-        }
-    }
-    count
+fn has_times(steps: &[Passage]) -> bool {
+    steps.iter().any(|step| step.ground.is_none())
 }
 
 /// Whether a tie is by a value that was read.
 fn any_seen(ties: &[Tie]) -> bool {
-    for tie in ties {
-        if matches!(tie.ground, Ground::Seen { .. }) {
-            return true;
-        }
-    }
-    false
+    ties.iter().any(|tie| matches!(tie.ground, Ground::Observed(Reason::Seen { .. })))
 }
 
 /// The name of what leaves no snapshot run, but a run of committed reads.
@@ -197,7 +179,7 @@ pub(crate) fn snapshot_name(history: &[Transaction], snapshot: &Snapshot) -> &'s
 fn misses(ties: &[Tie]) -> usize {
     let mut count = 0_usize;
     for tie in ties {
-        if matches!(tie.ground, Ground::Missed { .. }) {
+        if matches!(tie.ground, Ground::Observed(Reason::Missed { .. })) {
             count = count.saturating_add(1);
         }
     }
@@ -216,8 +198,10 @@ fn is_lost_update(history: &[Transaction], ties: &[Tie]) -> bool {
 fn loses(history: &[Transaction], one: &Tie, other: &Tie) -> bool {
     match (one.ground, other.ground) {
         (Ground::Wait { .. }, _) => true,
-        (Ground::InOrder { first, .. }, Ground::Missed { append, .. })
-        | (Ground::Late { first, .. }, Ground::Missed { append, .. }) => {
+        (
+            Ground::Observed(Reason::InOrder { first, .. }) | Ground::Late { first, .. },
+            Ground::Observed(Reason::Missed { append, .. }),
+        ) => {
             match (
                 append_at(history, one.from, first),
                 append_at(history, other.to, append),

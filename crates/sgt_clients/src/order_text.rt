@@ -1,18 +1,15 @@
 //! The lines and members on the orders that a snapshot run keeps.
-ghost use Rattle.std.specs.Prelude.{◌≡◌, ◌++◌, flat_map, OnOk};
-ghost use Rattle.sgt_clients.specs.OrderText.{passage_text, kept_answer, kept_lines, kept_text, strong_text, orders_text, passage_object, kept_members, kept_member, orders_members};
+ghost use Rattle.std.specs.Prelude.{◌≡◌, ◌++◌, OnOk};
+ghost use Rattle.sgt_clients.specs.OrderText.{kept_answer, kept_lines, kept_text, strong_text, orders_text, kept_members, kept_member, orders_members};
 
 use crate::clients::Clients;
-use crate::finding::Why;
-use crate::item::Item;
-use crate::json_text::{append_cycle, because};
+use crate::json_text::append_cycle;
 use crate::level::Answer;
-use crate::level_json::{answer_text, append_run, ground_word};
+use crate::level_json::{answer_text, append_run};
 use crate::orders::{Kept, KeptOrders};
 use crate::part::Part;
-use crate::{json_text, report_text};
+use crate::report_text::append_steps;
 use sgt_format::append_filled;
-use sgt_levels::Passage;
 use sgt_model::NoMemory;
 
 /// Appends the lines on both orders, if real time is kept.
@@ -65,10 +62,8 @@ fn answer_of(kept: &Kept) -> Answer
     ensures { result ≡ kept_answer kept.now }
 {
     match kept {
-        Kept::Implied => Answer::Yes,
-        Kept::Run(_) => Answer::Yes,
-        Kept::NotSnapshot => Answer::No,
-        Kept::Cycle(_) => Answer::No,
+        Kept::Implied | Kept::Run(_) => Answer::Yes,
+        Kept::NotSnapshot | Kept::Cycle(_) => Answer::No,
         Kept::Open => Answer::Undecided,
     }
 }
@@ -78,44 +73,12 @@ fn append_lines(text: &mut Vec<u8>, clients: &Clients, kept: &Kept) -> Result<()
     ensures { OnOk result (text.new.items ≡ text.old.items ++ kept_lines clients.now kept.now) }
 {
     match kept {
-        Kept::Implied => Ok(text.extend_from_slice(b"\n")?),
-        Kept::Run(_) => Ok(text.extend_from_slice(b"\n")?),
-        Kept::NotSnapshot => Ok(text.extend_from_slice(b"\n")?),
         Kept::Cycle(passages) => {
             text.extend_from_slice(b":\n")?;
-            append_passages(text, clients, passages.as_slice())
+            append_steps(text, clients, passages.as_slice())
         }
-        Kept::Open => Ok(text.extend_from_slice(b"\n")?),
-    }
-}
-
-/// Appends a line for each passage.
-fn append_passages(
-    text: &mut Vec<u8>,
-    clients: &Clients,
-    passages: &[Passage],
-) -> Result<(), NoMemory>
-    ensures { OnOk result (text.new.items ≡ text.old.items ++ flat_map (passage_text clients.now) passages.now) }
-{
-    for passage in passages {
-        append_passage(text, clients, passage)?;
-    }
-    Ok(())
-}
-
-/// Appends the line of a passage.
-fn append_passage(text: &mut Vec<u8>, clients: &Clients, passage: &Passage) -> Result<(), NoMemory>
-    ensures { OnOk result (text.new.items ≡ text.old.items ++ passage_text clients.now passage.now) }
-{
-    let (from, to) = (passage.from, passage.to);
-    match passage.ground {
-        Some(ground) => {
-            let why = Part::Ground(clients, from, to, ground);
-            report_text::append_link(text, clients, from, to, why)
-        }
-        None => {
-            let why = Part::Why(clients, from, to, Why::RealTime);
-            report_text::append_link(text, clients, from, to, why)
+        Kept::Implied | Kept::Run(_) | Kept::NotSnapshot | Kept::Open => {
+            Ok(text.extend_from_slice(b"\n")?)
         }
     }
 }
@@ -161,28 +124,8 @@ fn append_members(text: &mut Vec<u8>, clients: &Clients, kept: &Kept) -> Result<
     ensures { OnOk result (text.new.items ≡ text.old.items ++ kept_members clients.now kept.now) }
 {
     match kept {
-        Kept::Implied => Ok(()),
         Kept::Run(run) => append_run(text, clients, run),
-        Kept::NotSnapshot => Ok(()),
         Kept::Cycle(passages) => append_cycle(text, clients, passages.as_slice()),
-        Kept::Open => Ok(()),
-    }
-}
-
-impl Item for Passage {
-    ghost object = { passage_object };
-
-    fn append_object(&self, text: &mut Vec<u8>, clients: &Clients) -> Result<(), NoMemory> {
-        let (from, to) = (self.from, self.to);
-        match self.ground {
-            Some(ground) => {
-                let why = Part::Ground(clients, from, to, ground);
-                json_text::append_link(text, clients, from, to, ground_word(ground), why)
-            }
-            None => {
-                let why = Part::Why(clients, from, to, Why::RealTime);
-                json_text::append_link(text, clients, from, to, because(&Why::RealTime), why)
-            }
-        }
+        Kept::Implied | Kept::NotSnapshot | Kept::Open => Ok(()),
     }
 }

@@ -3,14 +3,11 @@
 ghost use Rattle.sgt_clients.specs.Pieces.{part_text};
 
 use crate::clients::Clients;
-use crate::finding::Why;
 use crate::piece::{append_placed, append_transaction};
-use crate::tie_text::{append_ground, append_partial};
-use crate::unseen_text::append_unseen;
-use crate::witness_text::{append_fault, append_why};
+use crate::witness_text::{append_fault, append_ground, append_partial, append_unseen};
 use sgt_appends::Fault;
 use sgt_format::{Spelled, append_number};
-use sgt_levels::{Ground, Partial, Unseen};
+use sgt_levels::{Partial, Passage, Unseen};
 use sgt_model::NoMemory;
 
 /// A part of a line, or of an object of JSON.
@@ -30,10 +27,8 @@ pub(crate) enum Part<'a> {
     Partial(&'a Clients, &'a Partial),
     /// Which read would show the order of two appends.
     Unseen(&'a Clients, &'a Unseen),
-    /// Why the first transaction comes before the second.
-    Why(&'a Clients, usize, usize, Why),
-    /// What was observed that puts the first transaction before the second.
-    Ground(&'a Clients, usize, usize, Ground),
+    /// Why the first transaction of the step comes before the second.
+    Why(&'a Clients, Passage),
 }
 
 impl Spelled for Part<'_> {
@@ -50,9 +45,12 @@ impl Spelled for Part<'_> {
             ),
             Part::Partial(clients, partial) => append_partial(text, clients, partial),
             Part::Unseen(clients, it) => append_unseen(text, clients, it),
-            Part::Why(clients, from, to, why) => append_why(text, clients, *from, *to, *why),
-            Part::Ground(clients, from, to, ground) => append_ground(
-                text, clients, *from, *to, *ground,
+            Part::Why(clients, step) => append_ground(
+                text,
+                clients,
+                step.from,
+                step.to,
+                step.ground,
             ),
         }
     }

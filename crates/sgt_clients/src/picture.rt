@@ -2,15 +2,16 @@
 
 use crate::clients::Clients;
 use crate::evidence::{put_at, seen_at};
-use crate::finding::{Finding, Step, Why};
+use crate::finding::Finding;
 use crate::level::Level;
 use crate::level_findings::{LevelFindings, Weaker};
 use crate::scene::{Scene, Stroke, place_of};
 use crate::stroke_text::history_of;
+use crate::witness_text::passage_of;
 use sgt_appends::{Fault, Operation, Reason, Status};
 use sgt_classes::{Edge, Violation};
 use sgt_format::append_numbered;
-use sgt_levels::{Committed, Ground, Partial, Snapshot, Tie, Writes};
+use sgt_levels::{Committed, Ground, Partial, Passage, Snapshot, Tie, Writes};
 use sgt_model::NoMemory;
 use sgt_timeline::{Highlight, append_picture, draw};
 use std::alloc::Global;
@@ -223,40 +224,9 @@ fn add_partial(scene: &mut Scene, partial: &Partial) -> Result<Subject, NoMemory
 fn add_ties(alloc: Global, scene: &mut Scene, ties: &[Tie]) -> Result<Subject, NoMemory> {
     let mut steps = Vec::with_capacity(alloc, ties.len())?;
     for tie in ties {
-        steps.push(Step {
-            from: tie.from,
-            to: tie.to,
-            why: Why::Observed(reason_of(tie.ground)),
-        })?;
+        steps.push(passage_of(tie))?;
     }
     add_steps(scene, steps.as_slice())
-}
-
-/// The reason whose operations are those of the ground.
-fn reason_of(ground: Ground) -> Reason {
-    match ground {
-        Ground::Seen { append, read } => Reason::Seen { append, read },
-        Ground::Missed { read, append } | Ground::Wait { read, append, .. } => {
-            Reason::Missed { read, append }
-        }
-        Ground::InOrder {
-            first,
-            second,
-            reader,
-            read,
-        }
-        | Ground::Late {
-            first,
-            second,
-            reader,
-            read,
-        } => Reason::InOrder {
-            first,
-            second,
-            reader,
-            read,
-        },
-    }
 }
 
 /// What stands out.
@@ -312,7 +282,7 @@ fn add_all(scene: &mut Scene, transaction: usize, count: usize) -> Result<(), No
 }
 
 /// Adds the operations of the first steps of a cycle.
-fn add_steps(scene: &mut Scene, steps: &[Step]) -> Result<Subject, NoMemory> {
+fn add_steps(scene: &mut Scene, steps: &[Passage]) -> Result<Subject, NoMemory> {
     for (place, step) in steps.iter().enumerate() {
         if place < MOST_STEPS {
             add_step(scene, step, next_of(steps, place))?;
@@ -322,7 +292,7 @@ fn add_steps(scene: &mut Scene, steps: &[Step]) -> Result<Subject, NoMemory> {
 }
 
 /// The step after the one at the place, in a cycle.
-fn next_of(steps: &[Step], place: usize) -> Option<&Step> {
+fn next_of(steps: &[Passage], place: usize) -> Option<&Passage> {
     if place.saturating_add(1) < steps.len() {
         steps.get(place.saturating_add(1))
     } else {
@@ -332,17 +302,18 @@ fn next_of(steps: &[Step], place: usize) -> Option<&Step> {
 
 /// Adds the two operations of the step, and the read that it cites. One of real time leads from an end to the operation
 /// of the next step.
-fn add_step(scene: &mut Scene, step: &Step, next: Option<&Step>) -> Result<(), NoMemory> {
-    let later = match step.why {
-        Why::Observed(reason) => at(step.to, later_position(&reason)),
-        Why::RealTime => match next {
+fn add_step(scene: &mut Scene, step: &Passage, next: Option<&Passage>) -> Result<(), NoMemory> {
+    let later = match step.ground {
+        Some(ground) => at(step.to, positions_of(ground).1),
+        None => match next {
             Some(next) => earlier_of(next),
             None => Stroke::end_of(step.to),
         },
     };
     scene.add_pair(earlier_of(step), later)?;
-    match step.why {
-        Why::Observed(Reason::InOrder { reader, read, .. }) => scene.add(at(reader, read)),
+    match step.ground {
+        Some(Ground::Observed(Reason::InOrder { reader, read, .. })) => scene.add(at(reader, read)),
+        Some(Ground::Late { reader, read, .. }) => scene.add(at(reader, read)),
         _ => Ok(()),
     }
 }
@@ -356,28 +327,22 @@ fn at(transaction: usize, position: usize) -> Stroke {
 }
 
 /// The operation from which the step leads.
-fn earlier_of(step: &Step) -> Stroke {
-    match step.why {
-        Why::Observed(reason) => at(step.from, earlier_position(&reason)),
-        Why::RealTime => Stroke::end_of(step.from),
+fn earlier_of(step: &Passage) -> Stroke {
+    match step.ground {
+        Some(ground) => at(step.from, positions_of(ground).0),
+        None => Stroke::end_of(step.from),
     }
 }
 
-/// The position of the operation from which the reason leads.
-fn earlier_position(reason: &Reason) -> usize {
-    match reason {
-        Reason::Seen { append, .. } => *append,
-        Reason::Missed { read, .. } => *read,
-        Reason::InOrder { first, .. } => *first,
-    }
-}
-
-/// The position of the operation to which the reason leads.
-fn later_position(reason: &Reason) -> usize {
-    match reason {
-        Reason::Seen { read, .. } => *read,
-        Reason::Missed { append, .. } => *append,
-        Reason::InOrder { second, .. } => *second,
+/// The positions of the operations from which and to which the ground leads.
+fn positions_of(ground: Ground) -> (usize, usize) {
+    match ground {
+        Ground::Observed(Reason::Seen { append, read }) => (append, read),
+        Ground::Observed(Reason::Missed { read, append }) | Ground::Wait { read, append, .. } => {
+            (read, append)
+        }
+        Ground::Observed(Reason::InOrder { first, second, .. })
+        | Ground::Late { first, second, .. } => (first, second),
     }
 }
 

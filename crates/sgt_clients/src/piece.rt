@@ -1,7 +1,7 @@
 //! The pieces of which the texts on what clients saw are made.
 
 ghost use Rattle.std.specs.Prelude.{◌≡◌, ◌++◌, flat_map, OnOk};
-ghost use Rattle.sgt_clients.specs.ReportText.{entry_of, transaction_text, placed, key_text, operation_at, value_at, key_at, seen_text, read_text, spaced, next_value, left_out_text, shown_text, values_text};
+ghost use Rattle.sgt_clients.specs.ReportText.{entry_of, transaction_text, placed, key_text, operation_at, seen_text, read_text, spaced, next_value, left_out_text, shown_text, values_text};
 ghost use Rattle.sgt_clients.specs.Pieces.{piece_text};
 
 use crate::clients::Clients;
@@ -42,19 +42,15 @@ impl Spelled for Piece<'_> {
     fn append_to(&self, text: &mut Vec<u8>) -> Result<(), NoMemory> {
         match self {
             Piece::Value(value) => Ok(append_number(text, value.cast_signed())?),
-            Piece::ValueAt(clients, transaction, position) => append_value_at(
-                text,
-                clients,
-                *transaction,
-                *position,
-            ),
+            Piece::ValueAt(clients, number, place) => match value_at(clients, *number, *place) {
+                Some(value) => Ok(append_number(text, value.cast_signed())?),
+                None => Ok(()),
+            },
             Piece::Key(clients, key) => append_key(text, clients, *key),
-            Piece::KeyAt(clients, transaction, position) => append_key_at(
-                text,
-                clients,
-                *transaction,
-                *position,
-            ),
+            Piece::KeyAt(clients, number, place) => match put_at(clients, *number, *place) {
+                Some(put) => append_key(text, clients, put.key),
+                None => Ok(()),
+            },
             Piece::Values(values, spoken) => append_values(text, values, *spoken),
             Piece::Transaction(number) => append_transaction(text, *number),
             Piece::Placed(clients, number) => append_placed(text, clients, *number),
@@ -114,36 +110,6 @@ fn append_key(text: &mut Vec<u8>, clients: &Clients, key: u32) -> Result<(), NoM
         text.extend_from_slice(name.as_slice())?;
     }
     Ok(())
-}
-
-/// Appends the value of the append at the position, if there is one.
-fn append_value_at(
-    text: &mut Vec<u8>,
-    clients: &Clients,
-    transaction: usize,
-    position: usize,
-) -> Result<(), NoMemory>
-    ensures { OnOk result (text.new.items ≡ text.old.items ++ value_at clients.now transaction position) }
-{
-    match value_at(clients, transaction, position) {
-        Some(value) => Ok(append_number(text, value.cast_signed())?),
-        None => Ok(()),
-    }
-}
-
-/// Appends the text of the key of the append at the position, if there is one.
-fn append_key_at(
-    text: &mut Vec<u8>,
-    clients: &Clients,
-    transaction: usize,
-    position: usize,
-) -> Result<(), NoMemory>
-    ensures { OnOk result (text.new.items ≡ text.old.items ++ key_at clients.now transaction position) }
-{
-    match put_at(clients, transaction, position) {
-        Some(put) => append_key(text, clients, put.key),
-        None => Ok(()),
-    }
 }
 
 /// Appends the key and the values of the read at the position, if there is one.

@@ -1,20 +1,21 @@
 //! The lines of a report.
 
-ghost use Rattle.std.specs.Prelude.{◌≡◌, ◌++◌, [], codes, flat_map, if◌then◌else◌, OnOk};
-ghost use Rattle.sgt_clients.specs.Pieces.{part_text};
-ghost use Rattle.sgt_clients.specs.ReportText.{verdict_text, finding_text, counts_text, skipped_text, order_text, shown_order, rest_text, next_text, no_text, fault_line, link_text, step_text};
+ghost use Rattle.std.specs.Prelude.{◌≡◌, ◌++◌, [], ◌∷◌, codes, flat_map, if◌then◌else◌, OnOk};
+ghost use Rattle.sgt_format.specs.Templates.{filled};
+ghost use Rattle.sgt_clients.specs.ReportText.{verdict_text, finding_text, counts_text, skipped_text, order_text, shown_order, rest_text, next_text, witness_text, fault_line, step_text};
 ghost use Rattle.sgt_clients.specs.Reports.{report_text};
 
 use crate::anomaly_text::append_anomalies;
 use crate::clients::Clients;
 use crate::counts::count;
-use crate::finding::{Finding, Step};
+use crate::finding::Finding;
 use crate::level_findings::LevelFindings;
 use crate::level_text::append_levels;
 use crate::order_text::append_orders;
 use crate::part::Part;
 use sgt_appends::{Fault, Transaction};
 use sgt_format::{append_filled, append_numbered};
+use sgt_levels::Passage;
 use sgt_model::NoMemory;
 
 /// Appends the lines of a report.
@@ -67,8 +68,24 @@ fn append_finding(text: &mut Vec<u8>, clients: &Clients, finding: &Finding) -> R
 {
     match finding {
         Finding::Serial(order) => append_order(text, order.as_slice()),
+        Finding::Cycle(..) => append_witness(text, clients, b"serializable no: #\n", finding),
+        Finding::Fault { .. } => append_witness(text, clients, b"serializable no: #\n", finding),
+    }
+}
+
+/// Appends the line that names the anomaly, by the template, and the lines of the cycle or the read. Nothing of an order.
+pub(crate) fn append_witness(
+    text: &mut Vec<u8>,
+    clients: &Clients,
+    template: &[u8],
+    finding: &Finding,
+) -> Result<(), NoMemory>
+    ensures { OnOk result (text.new.items ≡ text.old.items ++ witness_text template.now clients.now finding.now) }
+{
+    match finding {
+        Finding::Serial(_) => Ok(()),
         Finding::Cycle(steps, name) => {
-            append_no(text, name)?;
+            append_named(text, template, name)?;
             append_steps(text, clients, steps.as_slice())
         }
         Finding::Fault {
@@ -77,7 +94,7 @@ fn append_finding(text: &mut Vec<u8>, clients: &Clients, finding: &Finding) -> R
             fault,
             name,
         } => {
-            append_no(text, name)?;
+            append_named(text, template, name)?;
             append_fault_line(text, clients, *reader, *read, fault)
         }
     }
@@ -160,15 +177,11 @@ fn append_each(text: &mut Vec<u8>, order: &[usize]) -> Result<(), NoMemory>
     Ok(())
 }
 
-/// Appends the line that names the anomaly.
-fn append_no(text: &mut Vec<u8>, name: &str) -> Result<(), NoMemory>
-    ensures { OnOk result (text.new.items ≡ text.old.items ++ no_text name.now) }
+/// Appends the template with the name in place of its mark.
+fn append_named(text: &mut Vec<u8>, template: &[u8], name: &str) -> Result<(), NoMemory>
+    ensures { OnOk result (text.new.items ≡ text.old.items ++ filled template.now (name.now ∷ [])) }
 {
-    append_filled(
-        text,
-        b"serializable no: #\n",
-        &[Part::Words(name.as_bytes())],
-    )
+    append_filled(text, template, &[Part::Words(name.as_bytes())])
 }
 
 /// Appends the line of a read, and what is wrong with it.
@@ -188,30 +201,31 @@ pub(crate) fn append_fault_line(
 pub(crate) fn append_steps(
     text: &mut Vec<u8>,
     clients: &Clients,
-    steps: &[Step],
+    steps: &[Passage],
 ) -> Result<(), NoMemory>
     ensures { OnOk result (text.new.items ≡ text.old.items ++ flat_map (step_text clients.now) steps.now) }
 {
     for step in steps {
-        let why = Part::Why(clients, step.from, step.to, step.why);
-        append_link(text, clients, step.from, step.to, why)?;
+        append_step(text, clients, step)?;
     }
     Ok(())
 }
 
-/// Appends the line that the first transaction comes before the second, and why.
-pub(crate) fn append_link(
+/// Appends the line of a step: that the one transaction comes before the other, and why.
+pub(crate) fn append_step(
     text: &mut Vec<u8>,
     clients: &Clients,
-    from: usize,
-    to: usize,
-    why: Part<'_>,
+    step: &Passage,
 ) -> Result<(), NoMemory>
-    ensures { OnOk result (text.new.items ≡ text.old.items ++ link_text clients.now from to (part_text why.entry)) }
+    ensures { OnOk result (text.new.items ≡ text.old.items ++ step_text clients.now step.now) }
 {
     append_filled(
         text,
         b"  # before #: #\n",
-        &[Part::Placed(clients, from), Part::Placed(clients, to), why],
+        &[
+            Part::Placed(clients, step.from),
+            Part::Placed(clients, step.to),
+            Part::Why(clients, *step),
+        ],
     )
 }

@@ -8,13 +8,10 @@ ghost use Rattle.sgt_clients.specs.Checks.{IsChecked, IsJudged, IsOutput, IsFaul
 ghost use Rattle.sgt_clients.specs.Levels.{AreFound};
 ghost use Rattle.sgt_clients.specs.declared.level.Answer.{Answer};
 ghost use Rattle.sgt_clients.specs.Faults.{IsOwn};
-ghost use Rattle.sgt_clients.specs.Reports.{report_text, json_text};
-ghost use Rattle.sgt_clients.specs.GraphText.{graph_text};
 
 use crate::clients::{Clients, read_clients};
 use crate::explained::explained;
 use crate::fault::{ClientsFault, Flaw};
-use crate::finding::Finding;
 use crate::graph_text::append_graph;
 use crate::json_text::append_json;
 use crate::level::{Answer, Level, Question};
@@ -223,61 +220,25 @@ fn text_of(
 ) -> Result<Vec<u8>, NoMemory>
     ensures { IfOk result (λ text. IsOutput output strict clients.now found.now text.items) }
 {
+    let mut text = Vec::new(alloc);
     match output {
-        ClientsOutput::Report => report_of(alloc, clients, found, strict),
-        ClientsOutput::Json => json_of(alloc, clients, found, strict),
-        ClientsOutput::Graph => graph_of(alloc, clients, &found.finding),
-        ClientsOutput::Timeline => timeline_of(alloc, clients, found, strict, level),
+        ClientsOutput::Report => {
+            append_report(&mut text, clients, found, strict)?;
+            Ok(text)
+        }
+        ClientsOutput::Json => {
+            append_json(&mut text, clients, found, strict)?;
+            Ok(text)
+        }
+        ClientsOutput::Graph => {
+            append_graph(&mut text, clients, &found.finding)?;
+            Ok(text)
+        }
+        ClientsOutput::Timeline => {
+            let mut report = Vec::new(alloc);
+            append_report(&mut report, clients, found, strict)?;
+            append_timeline(alloc, &mut text, clients, found, level, report.as_slice())?;
+            Ok(text)
+        }
     }
-}
-
-/// The text of the report.
-fn report_of(
-    alloc: Global,
-    clients: &Clients,
-    found: &LevelFindings,
-    strict: bool,
-) -> Result<Vec<u8>, NoMemory>
-    ensures { IfOk result (λ text. text.items ≡ report_text strict clients.now found.now) }
-{
-    let mut text = Vec::new(alloc);
-    append_report(&mut text, clients, found, strict)?;
-    Ok(text)
-}
-
-/// The text of the report as one object of JSON.
-fn json_of(
-    alloc: Global,
-    clients: &Clients,
-    found: &LevelFindings,
-    strict: bool,
-) -> Result<Vec<u8>, NoMemory>
-    ensures { IfOk result (λ text. text.items ≡ json_text strict clients.now found.now) }
-{
-    let mut text = Vec::new(alloc);
-    append_json(&mut text, clients, found, strict)?;
-    Ok(text)
-}
-
-/// The text of the graph.
-fn graph_of(alloc: Global, clients: &Clients, finding: &Finding) -> Result<Vec<u8>, NoMemory>
-    ensures { IfOk result (λ text. text.items ≡ graph_text clients.now finding.now) }
-{
-    let mut text = Vec::new(alloc);
-    append_graph(&mut text, clients, finding)?;
-    Ok(text)
-}
-
-/// The text of the picture, with the report below it.
-fn timeline_of(
-    alloc: Global,
-    clients: &Clients,
-    found: &LevelFindings,
-    strict: bool,
-    level: Level,
-) -> Result<Vec<u8>, NoMemory> {
-    let report = report_of(alloc, clients, found, strict)?;
-    let mut text = Vec::new(alloc);
-    append_timeline(alloc, &mut text, clients, found, level, report.as_slice())?;
-    Ok(text)
 }

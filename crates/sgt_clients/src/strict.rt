@@ -13,12 +13,13 @@ ghost use Rattle.sgt_clients.specs.Times.{ComesAfter};
 use crate::barriers::pairs_in_time;
 use crate::clients::{Clients, Span};
 use crate::fault::ClientsFault;
-use crate::finding::{Finding, Step, Why, check_clients};
+use crate::finding::{Finding, check_clients};
 use crate::names::strict_cycle_name;
 use sgt_appends::{
     Edge, Proposal, Status, Transaction, Witness, all_hold, appends_once, is_serial_run, name_of,
     propose,
 };
+use sgt_levels::{Ground, Passage};
 use sgt_model::NoMemory;
 use std::alloc::Global;
 
@@ -63,12 +64,8 @@ fn violated(finding: Finding) -> Result<Finding, ClientsFault>
 
 /// Whether an edge leads to a barrier.
 fn has_barrier(clients: &Clients, edges: &[Edge]) -> bool {
-    for edge in edges {
-        if edge.to >= clients.transactions.len() {
-            return true;
-        }
-    }
-    false
+    let number = clients.transactions.len();
+    edges.iter().any(|edge| edge.to >= number)
 }
 
 /// The finding of a serial order.
@@ -147,7 +144,7 @@ fn observed_of(alloc: Global, edges: &[Edge], number: usize) -> Result<Vec<Edge>
 }
 
 /// The steps between transactions of the clients.
-fn steps_of(alloc: Global, edges: &[Edge], number: usize) -> Result<Vec<Step>, NoMemory> {
+fn steps_of(alloc: Global, edges: &[Edge], number: usize) -> Result<Vec<Passage>, NoMemory> {
     let mut steps = Vec::new(alloc);
     let mut left = last_left(edges, number);
     for edge in edges {
@@ -162,16 +159,16 @@ fn steps_of(alloc: Global, edges: &[Edge], number: usize) -> Result<Vec<Step>, N
 }
 
 /// The step to the end of the edge, which leads from a barrier or not, from the transaction that was left last.
-fn step_of(edge: &Edge, left: usize, number: usize) -> Step {
-    let why = if edge.from < number {
-        Why::Observed(edge.reason)
+fn step_of(edge: &Edge, left: usize, number: usize) -> Passage {
+    let ground = if edge.from < number {
+        Some(Ground::Observed(edge.reason))
     } else {
-        Why::RealTime
+        None
     };
-    Step {
+    Passage {
         from: left,
         to: edge.to,
-        why,
+        ground,
     }
 }
 
@@ -187,7 +184,7 @@ fn last_left(edges: &[Edge], number: usize) -> usize {
 }
 
 /// Whether the steps are a cycle, and each holds.
-fn leads_back(history: &[Transaction], spans: &[Span], steps: &[Step]) -> bool
+fn leads_back(history: &[Transaction], spans: &[Span], steps: &[Passage]) -> bool
     ensures { IsTrue result → AppendsOnce history.now → ¬ HasOrder true history.now spans.now }
 {
     if steps.is_empty() {
@@ -205,11 +202,11 @@ fn leads_back(history: &[Transaction], spans: &[Span], steps: &[Step]) -> bool
 }
 
 /// Whether what was observed, or real time, shows the step.
-fn holds(history: &[Transaction], spans: &[Span], step: &Step) -> bool
-    ensures { IsTrue result → Shows history.now spans.now step.now.from step.now.to step.now.why }
+fn holds(history: &[Transaction], spans: &[Span], step: &Passage) -> bool
+    ensures { IsTrue result → Shows history.now spans.now step.now.from step.now.to step.now.ground }
 {
-    match step.why {
-        Why::Observed(reason) => all_hold(
+    match step.ground {
+        Some(Ground::Observed(reason)) => all_hold(
             history,
             &[Edge {
                 from: step.from,
@@ -217,7 +214,8 @@ fn holds(history: &[Transaction], spans: &[Span], step: &Step) -> bool
                 reason,
             }],
         ),
-        Why::RealTime => {
+        Some(_) => false,
+        None => {
             step.from != step.to
                 && is_committed(history, step.from)
                 && ended_before(spans, step.from, step.to)

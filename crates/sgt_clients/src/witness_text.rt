@@ -1,38 +1,84 @@
-//! The words of a witness.
+//! The words of a witness, and of what leaves a level undecided.
 
 ghost use Rattle.std.specs.Prelude.{◌≡◌, ◌++◌, OnOk};
-ghost use Rattle.sgt_clients.specs.ReportText.{reason_text, why_text, parting_at, spoken_of, faulty_text, fault_text};
+ghost use Rattle.sgt_clients.specs.ReportText.{passage_of, ground_text, reason_text, partial_text, parting_at, spoken_of, faulty_text, fault_text, unseen_text, unseen_in};
 
 use crate::clients::Clients;
 use crate::evidence::{Spoken, parting, value_at, values_at};
-use crate::finding::Why;
+use crate::part::Part;
 use crate::piece::Piece;
 use sgt_appends::{Fault, Reason};
 use sgt_format::append_filled;
+use sgt_levels::{Ground, Partial, Passage, Tie, Unseen};
 use sgt_model::NoMemory;
 
-/// Appends why the first transaction comes before the second.
-pub(crate) fn append_why(
+/// The step of a tie.
+pub(crate) fn passage_of(tie: &Tie) -> Passage
+    ensures { result ≡ passage_of tie.now }
+{
+    Passage {
+        from: tie.from,
+        to: tie.to,
+        ground: Some(tie.ground),
+    }
+}
+
+/// Appends why the first transaction comes before the second: by the ground, or without one in real time.
+pub(crate) fn append_ground(
     text: &mut Vec<u8>,
     clients: &Clients,
     from: usize,
     to: usize,
-    why: Why,
+    ground: Option<Ground>,
 ) -> Result<(), NoMemory>
-    ensures { OnOk result (text.new.items ≡ text.old.items ++ why_text clients.now from to why) }
+    ensures { OnOk result (text.new.items ≡ text.old.items ++ ground_text clients.now from to ground) }
 {
-    match why {
-        Why::Observed(reason) => append_reason(text, clients, from, to, reason),
-        Why::RealTime => append_filled(
+    let Some(ground) = ground else {
+        return append_filled(
             text,
             b"# ended before # began",
             &[Piece::Transaction(from), Piece::Transaction(to)],
-        ),
+        );
+    };
+    match ground {
+        Ground::Observed(reason) => append_reason(text, clients, from, to, reason),
+        Ground::Late {
+            first,
+            second,
+            reader,
+            read,
+        } => {
+            let spoken = Spoken::of_one(value_at(clients, from, first));
+            append_filled(
+                text,
+                b"#, with # of # and without # of #",
+                &[
+                    Piece::PlacedRead(clients, reader, read, spoken),
+                    Piece::ValueAt(clients, from, first),
+                    Piece::Transaction(from),
+                    Piece::ValueAt(clients, to, second),
+                    Piece::Transaction(to),
+                ],
+            )
+        }
+        Ground::Wait {
+            first,
+            read,
+            append,
+            ..
+        } => {
+            append_reason(text, clients, from, to, Reason::Missed { read, append })?;
+            append_filled(
+                text,
+                b", and both append to key #",
+                &[Piece::KeyAt(clients, from, first)],
+            )
+        }
     }
 }
 
 /// Appends what was observed that puts the first transaction before the second.
-pub(crate) fn append_reason(
+fn append_reason(
     text: &mut Vec<u8>,
     clients: &Clients,
     from: usize,
@@ -88,6 +134,63 @@ pub(crate) fn append_reason(
                 ],
             )
         }
+    }
+}
+
+/// Appends the words of a partial read.
+pub(crate) fn append_partial(
+    text: &mut Vec<u8>,
+    clients: &Clients,
+    partial: &Partial,
+) -> Result<(), NoMemory>
+    ensures { OnOk result (text.new.items ≡ text.old.items ++ partial_text clients.now partial.now) }
+{
+    let spoken = Spoken::of_one(value_at(clients, partial.by, partial.seen));
+    append_filled(
+        text,
+        b"#, with # and without #, both of #",
+        &[
+            Piece::PlacedRead(clients, partial.reader, partial.read, spoken),
+            Piece::ValueAt(clients, partial.by, partial.seen),
+            Piece::ValueAt(clients, partial.by, partial.missed),
+            Piece::Placed(clients, partial.by),
+        ],
+    )
+}
+
+/// Appends which read would show the order of two appends.
+pub(crate) fn append_unseen(
+    text: &mut Vec<u8>,
+    clients: &Clients,
+    it: &Unseen,
+) -> Result<(), NoMemory>
+    ensures { OnOk result (text.new.items ≡ text.old.items ++ unseen_text clients.now it.now) }
+{
+    append_filled(
+        text,
+        b"read key # at the end: it would show the order of # of # and # of #",
+        &[
+            Piece::KeyAt(clients, it.one, it.first),
+            Piece::ValueAt(clients, it.one, it.first),
+            Piece::Placed(clients, it.one),
+            Piece::ValueAt(clients, it.other, it.second),
+            Piece::Placed(clients, it.other),
+        ],
+    )
+}
+
+/// Appends the template with that in place of its mark, if there are two appends that no read saw.
+pub(crate) fn append_unseen_in(
+    text: &mut Vec<u8>,
+    clients: &Clients,
+    template: &[u8],
+    unseen: &Option<Unseen>,
+) -> Result<(), NoMemory>
+    ensures { OnOk result (text.new.items ≡ text.old.items ++ unseen_in template.now clients.now unseen.now) }
+{
+    match unseen {
+        Some(it) => append_filled(text, template, &[Part::Unseen(clients, it)]),
+        None => Ok(()),
     }
 }
 

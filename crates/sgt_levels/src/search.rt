@@ -34,14 +34,12 @@ pub fn search_commits(
     let mut links = Vec::new(alloc);
     for (number, tie) in survey.ties.iter().enumerate() {
         match tie.ground {
-            Ground::Seen { .. } | Ground::InOrder { .. } | Ground::Late { .. } => {
-                links.push(Link {
-                    from: tie.from,
-                    to: tie.to,
-                    reason: tied(number),
-                })?;
-            }
-            Ground::Wait { .. } | Ground::Missed { .. } => (),
+            Ground::Wait { .. } | Ground::Observed(Reason::Missed { .. }) => (),
+            _ => links.push(Link {
+                from: tie.from,
+                to: tie.to,
+                reason: tied(number),
+            })?,
         }
     }
     match sort_within(alloc, links.as_slice(), history.len())? {
@@ -105,7 +103,7 @@ fn passages_of(
                 Some((from, read)) => {
                     let to = link.to / 2;
                     if from != to {
-                        let ground = Ground::Missed { read, append };
+                        let ground = Ground::Observed(Reason::Missed { read, append });
                         passages.push(passage(from, to, Some(ground)))?;
                     }
                     enters = None;
@@ -318,7 +316,9 @@ fn end_of(nodes: Nodes, visit: &Visit) -> Option<usize> {
 /// Adds the link of the tie: a miss leads from the begin to the commit, all else from the commit to the begin.
 fn add_tie(links: &mut Vec<Link>, number: usize, tie: &Tie) -> Result<(), NoMemory> {
     match tie.ground {
-        Ground::Missed { .. } => add(links, begin_of(tie.from), commit_of(tie.to), tied(number)),
+        Ground::Observed(Reason::Missed { .. }) => {
+            add(links, begin_of(tie.from), commit_of(tie.to), tied(number))
+        }
         _ => add(links, commit_of(tie.from), begin_of(tie.to), tied(number)),
     }
 }

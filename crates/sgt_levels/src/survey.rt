@@ -5,7 +5,7 @@ ghost use Rattle.std.specs.Prelude.{◌≡◌, length};
 ghost use Rattle.sgt_appends.specs.Runs.{operations_of};
 
 use crate::tie::{Ground, Tie};
-use sgt_appends::{AppendIndex, Operation, Read, Status, Transaction, read_of};
+use sgt_appends::{AppendIndex, Operation, Read, Reason, Status, Transaction, read_of};
 use sgt_model::NoMemory;
 use std::alloc::Global;
 use std::collections::BTreeMap;
@@ -290,19 +290,19 @@ impl Survey {
         let seen = read.seen.len();
         let last = last_other(self.spots_of(line, 0, seen), read.reader);
         if let Some((from, append)) = last {
-            let ground = Ground::Seen {
+            let reason = Reason::Seen {
                 append,
                 read: read.position,
             };
-            self.tie(from, read.reader, ground)?;
+            self.tie(from, read.reader, Ground::Observed(reason))?;
         }
         match next_other(self.spots_of(line, seen, line.len), read.reader) {
             Some((to, append)) => {
-                let ground = Ground::Missed {
+                let reason = Reason::Missed {
                     read: read.position,
                     append,
                 };
-                self.tie(read.reader, to, ground)?;
+                self.tie(read.reader, to, Ground::Observed(reason))?;
                 self.note_partial(read, last, to, append);
                 Ok(())
             }
@@ -346,13 +346,13 @@ impl Survey {
             let next = self.spot_at(line, index);
             if let Some((from, first)) = before {
                 if let Some((to, second)) = next {
-                    let ground = Ground::InOrder {
+                    let reason = Reason::InOrder {
                         first,
                         second,
                         reader: line.reader,
                         read: line.read,
                     };
-                    self.tie(from, to, ground)?;
+                    self.tie(from, to, Ground::Observed(reason))?;
                 }
             }
             before = next;

@@ -15,18 +15,8 @@ use sgt_appends::{Edge, Reason, Transaction, append_at, has, is_shown, read_of_t
 /// Why one transaction comes before another. Operations are named by their positions in their transactions.
 #[derive(Clone, Copy, Debug, PartialEq, Eq)]
 pub enum Ground {
-    /// The later one read a value that the earlier one appends.
-    Seen {
-        append: usize,
-        read: usize,
-    },
-    /// A reader saw a value of the earlier one before one of the later one.
-    InOrder {
-        first: usize,
-        second: usize,
-        reader: usize,
-        read: usize,
-    },
+    /// By what was observed, for which it also comes before in a serial run.
+    Observed(Reason),
     /// A reader saw a value of the earlier one, and none yet of the later one at the same key.
     Late {
         first: usize,
@@ -38,11 +28,6 @@ pub enum Ground {
     Wait {
         first: usize,
         second: usize,
-        read: usize,
-        append: usize,
-    },
-    /// The earlier one read a list without a value of the later one.
-    Missed {
         read: usize,
         append: usize,
     },
@@ -211,7 +196,7 @@ fn follows(history: &[Transaction], tie: &Tie) -> bool
     ensures { IsTrue result → Follows history.now tie.now.from tie.now.to }
 {
     match tie.ground {
-        Ground::Seen { append, read } => {
+        Ground::Observed(Reason::Seen { append, read }) => {
             shows(history, tie.from, tie.to, Reason::Seen { append, read })
         }
         _ => came_first(history, tie),
@@ -227,12 +212,14 @@ pub(crate) fn came_first(history: &[Transaction], tie: &Tie) -> bool
         return false;
     }
     match tie.ground {
-        Ground::InOrder {
-            first,
-            second,
-            reader,
-            read,
-        } => {
+        Ground::Observed(
+            Reason::InOrder {
+                first,
+                second,
+                reader,
+                read,
+            },
+        ) => {
             let reason = Reason::InOrder {
                 first,
                 second,
@@ -271,7 +258,9 @@ fn misses(history: &[Transaction], tie: &Tie) -> bool
     ensures { IsTrue result → Misses history.now tie.now.from tie.now.to }
 {
     match tie.ground {
-        Ground::Missed { read, append } => was_missed(history, tie.from, tie.to, read, append),
+        Ground::Observed(Reason::Missed { read, append }) => {
+            was_missed(history, tie.from, tie.to, read, append)
+        }
         _ => false,
     }
 }

@@ -184,13 +184,13 @@ impl Notes {
         second: usize,
         read: Read<'_>,
     ) -> Result<(), NoMemory> {
-        let ground = Ground::InOrder {
+        let reason = Reason::InOrder {
             first,
             second,
             reader: read.reader,
             read: read.position,
         };
-        self.tie(from, to, ground)
+        self.tie(from, to, Ground::Observed(reason))
     }
 
     /// Adds two ties, if the values of neither read are the first ones of the other: where they first differ.

@@ -4,7 +4,7 @@ use Rattle.std.specs.Prelude.{IsNone}
 use Rattle.sgt_model.specs.Numbers.{IsValue}
 use Rattle.sgt_c.specs.DeskStructs.{asked_in}
 use Rattle.sgt_c.proofs.DeskTurns.{none_requested}
-use Rattle.sgt_c.proofs.shared.making.asked_of.Goals as goal
+use Rattle.sgt_c.proofs.shared.calls.asked_of.Goals as goal
 
 pub returns-in-Some-clause-none : goal.returns-in-Some-clause-none
 returns-in-Some-clause-none c =

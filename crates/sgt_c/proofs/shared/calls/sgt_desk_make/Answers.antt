@@ -3,7 +3,7 @@ use Rattle.std.proofs.Common.{rules, subst}
 use Rattle.std.specs.Prelude.{IsNone}
 use Rattle.sgt_c.specs.DeskTurns.{IsRunnable}
 use Rattle.sgt_c.proofs.DeskTurns.{no_status}
-use Rattle.sgt_c.proofs.shared.making.sgt_desk_make.Goals as goal
+use Rattle.sgt_c.proofs.shared.calls.sgt_desk_make.Goals as goal
 
 pub returns-clause-unchanged : goal.returns-clause-unchanged
 returns-clause-unchanged c is = no_status c.make_lent-made.result c.make_lent-made.ensures.turns is

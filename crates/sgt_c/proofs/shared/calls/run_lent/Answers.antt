@@ -1,6 +1,6 @@
 use Rattle.std.proofs.Common.{rules}
 use Rattle.sgt_c.proofs.DeskTurns.{done_of, reports_outcome}
-use Rattle.sgt_c.proofs.shared.running.run_lent.Goals as goal
+use Rattle.sgt_c.proofs.shared.calls.run_lent.Goals as goal
 
 pub returns-clause-reported : goal.returns-clause-reported
 returns-clause-reported c is =
