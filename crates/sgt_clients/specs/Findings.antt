@@ -35,7 +35,7 @@ HasOrder strict h spans = (order : List ℕ) × IsOrder strict h spans order
 
 -- what a step says of its two transactions: by its ground, or without one by real time
 abbrev pub Shows : List Transaction → List Span → ℕ → ℕ → Option Ground → Type 0
-Shows h spans t u (Some ground) = Precedes h t u
+Shows h spans t u (Some reason) = Precedes h t u
 Shows h spans t u None = (t ≢ u) × Ended h t Committed × EndedBefore spans t u
 
 -- a serial order is one, and in place of one a witness is found only if there is none

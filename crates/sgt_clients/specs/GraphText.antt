@@ -19,7 +19,7 @@ source_text c s = filled (codes "  # [label=\"#\"];\n") (transaction_text s.from
 -- a step, in red, with its reason
 abbrev pub arrow_text : Clients → Passage → List ℕ
 arrow_text c s =
-    filled (codes "  # -> # [color=red, label=\"#\"];\n") (transaction_text s.from ∷ transaction_text s.to ∷ ground_text c s.from s.to s.ground ∷ [])
+    filled (codes "  # -> # [color=red, label=\"#\"];\n") (transaction_text s.from ∷ transaction_text s.to ∷ ground_text c s.from s.to s.why ∷ [])
 
 -- the transactions of the serial order, or those of the cycle and its steps, or the reader in red with what is wrong
 abbrev pub graph_lines : Clients → Finding → List ℕ

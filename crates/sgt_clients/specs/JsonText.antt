@@ -53,8 +53,8 @@ ground_word None = codes "real time"
 abbrev pub step_object : Clients → Passage → List ℕ
 step_object c s =
     filled (codes "{\"from\":#,\"to\":#,\"from_entry\":#,\"to_entry\":#,\"because\":\"#\",\"why\":\"#\"}")
-    (decimal (from_one s.from) ∷ decimal (from_one s.to) ∷ decimal (entry_of c s.from) ∷ decimal (entry_of c s.to) ∷ ground_word s.ground
-    ∷ ground_text c s.from s.to s.ground ∷ [])
+    (decimal (from_one s.from) ∷ decimal (from_one s.to) ∷ decimal (entry_of c s.from) ∷ decimal (entry_of c s.to) ∷ ground_word s.why
+    ∷ ground_text c s.from s.to s.why ∷ [])
 
 -- a tie
 abbrev pub tie_object : Clients → Tie → List ℕ

@@ -29,4 +29,4 @@ part_text (part.Placed c t) = placed c.now t
 part_text (part.Fault c reader read fault) = fault_text c.now reader read fault.now
 part_text (part.Partial c partial) = partial_text c.now partial.now
 part_text (part.Unseen c it) = unseen_text c.now it.now
-part_text (part.Why c step) = ground_text c.now step.from step.to step.ground
+part_text (part.Why c step) = ground_text c.now step.from step.to step.why

@@ -162,11 +162,11 @@ ground_text c t u None = filled (codes "# ended before # began") (transaction_te
 
 -- the line of a step: that one transaction comes before another, and why
 abbrev pub step_text : Clients → Passage → List ℕ
-step_text c s = filled (codes "  # before #: #\n") (placed c s.from ∷ placed c s.to ∷ ground_text c s.from s.to s.ground ∷ [])
+step_text c s = filled (codes "  # before #: #\n") (placed c s.from ∷ placed c s.to ∷ ground_text c s.from s.to s.why ∷ [])
 
 -- the step of a tie
 abbrev pub passage_of : Tie → Passage
-passage_of tie = record { from = tie.from; to = tie.to; ground = Some tie.ground }
+passage_of tie = record { from = tie.from; to = tie.to; why = Some tie.ground }
 
 -- the line of a tie
 abbrev pub tie_text : Clients → Tie → List ℕ

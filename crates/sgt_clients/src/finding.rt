@@ -88,7 +88,7 @@ fn steps_of(alloc: Global, edges: &[Edge]) -> Result<Vec<Passage>, NoMemory> {
         steps.push(Passage {
             from: edge.from,
             to: edge.to,
-            ground: Some(Ground::Observed(edge.reason)),
+            why: Some(Ground::Observed(edge.reason)),
         })?;
     }
     Ok(steps)

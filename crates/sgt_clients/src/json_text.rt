@@ -165,7 +165,7 @@ impl Item for Passage {
                 Part::Number(self.to.saturating_add(1)),
                 Part::Number(entry_of(clients, self.from)),
                 Part::Number(entry_of(clients, self.to)),
-                Part::Words(ground_word(self.ground)),
+                Part::Words(ground_word(self.why)),
                 Part::Why(clients, *self),
             ],
         )

@@ -66,7 +66,7 @@ fn misses_in_a_row(steps: &[Passage]) -> bool {
 
 /// Whether the step is by a missed append.
 fn is_miss(step: &Passage) -> bool {
-    matches!(step.ground, Some(Ground::Observed(Reason::Missed { .. })))
+    matches!(step.why, Some(Ground::Observed(Reason::Missed { .. })))
 }
 
 /// The name of what leaves no write order.
@@ -109,9 +109,7 @@ pub(crate) fn breaks_committed(finding: &Finding, committed: &Committed) -> bool
         ) => { *reader == *other && *read == *place }
         (Finding::Cycle(steps, _), Committed::Cycle(ties)) => {
             steps.len() <= ties.len()
-                && !steps
-                    .iter()
-                    .any(|step| is_miss(step) || step.ground.is_none())
+                && !steps.iter().any(|step| is_miss(step) || step.why.is_none())
         }
         _ => false,
     }
@@ -157,7 +155,7 @@ pub(crate) fn breaks_strong(finding: &Finding, strong: &Kept) -> bool {
 
 /// Whether a step is of real time.
 fn has_times(steps: &[Passage]) -> bool {
-    steps.iter().any(|step| step.ground.is_none())
+    steps.iter().any(|step| step.why.is_none())
 }
 
 /// Whether a tie is by a value that was read.

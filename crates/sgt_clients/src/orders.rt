@@ -115,7 +115,7 @@ fn merged(alloc: Global, passages: &[Passage]) -> Result<Vec<Passage>, NoMemory>
     let mut merged: Vec<Passage> = Vec::with_capacity(alloc, passages.len())?;
     for passage in passages {
         let goes_on = match merged.last() {
-            Some(before) => before.ground.is_none() && passage.ground.is_none(),
+            Some(before) => before.why.is_none() && passage.why.is_none(),
             None => false,
         };
         let last = merged.len().saturating_sub(1);
@@ -211,7 +211,7 @@ fn begins_after(run: &Snapshots, place: Option<usize>, before: Option<usize>) ->
 /// Whether each passage without a ground leads from a transaction that committed to one that comes after it in the order.
 fn all_hold(clients: &Clients, passages: &[Passage], kind: Kind) -> bool {
     for passage in passages {
-        if passage.ground.is_none() && !comes_before(clients, passage.from, passage.to, kind) {
+        if passage.why.is_none() && !comes_before(clients, passage.from, passage.to, kind) {
             return false;
         }
     }

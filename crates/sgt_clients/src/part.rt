@@ -45,13 +45,7 @@ impl Spelled for Part<'_> {
             ),
             Part::Partial(clients, partial) => append_partial(text, clients, partial),
             Part::Unseen(clients, it) => append_unseen(text, clients, it),
-            Part::Why(clients, step) => append_ground(
-                text,
-                clients,
-                step.from,
-                step.to,
-                step.ground,
-            ),
+            Part::Why(clients, step) => append_ground(text, clients, step.from, step.to, step.why),
         }
     }
 }

@@ -303,7 +303,7 @@ fn next_of(steps: &[Passage], place: usize) -> Option<&Passage> {
 /// Adds the two operations of the step, and the read that it cites. One of real time leads from an end to the operation
 /// of the next step.
 fn add_step(scene: &mut Scene, step: &Passage, next: Option<&Passage>) -> Result<(), NoMemory> {
-    let later = match step.ground {
+    let later = match step.why {
         Some(ground) => at(step.to, positions_of(ground).1),
         None => match next {
             Some(next) => earlier_of(next),
@@ -311,7 +311,7 @@ fn add_step(scene: &mut Scene, step: &Passage, next: Option<&Passage>) -> Result
         },
     };
     scene.add_pair(earlier_of(step), later)?;
-    match step.ground {
+    match step.why {
         Some(Ground::Observed(Reason::InOrder { reader, read, .. })) => scene.add(at(reader, read)),
         Some(Ground::Late { reader, read, .. }) => scene.add(at(reader, read)),
         _ => Ok(()),
@@ -328,7 +328,7 @@ fn at(transaction: usize, position: usize) -> Stroke {
 
 /// The operation from which the step leads.
 fn earlier_of(step: &Passage) -> Stroke {
-    match step.ground {
+    match step.why {
         Some(ground) => at(step.from, positions_of(ground).0),
         None => Stroke::end_of(step.from),
     }

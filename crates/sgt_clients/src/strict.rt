@@ -160,7 +160,7 @@ fn steps_of(alloc: Global, edges: &[Edge], number: usize) -> Result<Vec<Passage>
 
 /// The step to the end of the edge, which leads from a barrier or not, from the transaction that was left last.
 fn step_of(edge: &Edge, left: usize, number: usize) -> Passage {
-    let ground = if edge.from < number {
+    let why = if edge.from < number {
         Some(Ground::Observed(edge.reason))
     } else {
         None
@@ -168,7 +168,7 @@ fn step_of(edge: &Edge, left: usize, number: usize) -> Passage {
     Passage {
         from: left,
         to: edge.to,
-        ground,
+        why,
     }
 }
 
@@ -203,9 +203,9 @@ fn leads_back(history: &[Transaction], spans: &[Span], steps: &[Passage]) -> boo
 
 /// Whether what was observed, or real time, shows the step.
 fn holds(history: &[Transaction], spans: &[Span], step: &Passage) -> bool
-    ensures { IsTrue result → Shows history.now spans.now step.now.from step.now.to step.now.ground }
+    ensures { IsTrue result → Shows history.now spans.now step.now.from step.now.to step.now.why }
 {
-    match step.ground {
+    match step.why {
         Some(Ground::Observed(reason)) => all_hold(
             history,
             &[Edge {

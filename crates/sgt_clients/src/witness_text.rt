@@ -19,7 +19,7 @@ pub(crate) fn passage_of(tie: &Tie) -> Passage
     Passage {
         from: tie.from,
         to: tie.to,
-        ground: Some(tie.ground),
+        why: Some(tie.ground),
     }
 }
 

@@ -117,8 +117,8 @@ fn passages_of(
 }
 
 /// The passage from the one to the other.
-fn passage(from: usize, to: usize, ground: Option<Ground>) -> Passage {
-    Passage { from, to, ground }
+fn passage(from: usize, to: usize, why: Option<Ground>) -> Passage {
+    Passage { from, to, why }
 }
 
 /// The ties of a cycle of links.
@@ -131,7 +131,7 @@ fn ties_of(alloc: Global, survey: &Survey, cycle: &[Link]) -> Result<Vec<Tie>, N
 pub fn ties_in(alloc: Global, passages: &[Passage]) -> Result<Vec<Tie>, NoMemory> {
     let mut ties = Vec::new(alloc);
     for passage in passages {
-        if let Some(ground) = passage.ground {
+        if let Some(ground) = passage.why {
             ties.push(Tie {
                 from: passage.from,
                 to: passage.to,

@@ -46,7 +46,7 @@ pub struct Tie {
 pub struct Passage {
     pub from: usize,
     pub to: usize,
-    pub ground: Option<Ground>,
+    pub why: Option<Ground>,
 }
 
 /// Whether the passages are a cycle without two misses next to one another, and each holds that has a ground. It begins
@@ -73,7 +73,7 @@ pub fn is_round(history: &[Transaction], passages: &[Passage]) -> bool {
 
 /// Whether a miss may come after the passage, if it may come next. `waits` says whether the passage itself may be a miss.
 fn pass(history: &[Transaction], passage: &Passage, waits: bool) -> Option<bool> {
-    match passage.ground {
+    match passage.why {
         Some(ground) => {
             let tie = Tie {
                 from: passage.from,

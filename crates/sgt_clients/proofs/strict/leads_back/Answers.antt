@@ -11,7 +11,7 @@ loop-step-preserved c =
     let s : Passage = slice_index_or c.args.steps.now c.loop-step.step-index none in
     let first : Passage = slice_index_or c.args.steps.now 0 none in
     let same : s.from ≡ c.loop-step.at = search rules in
-    climb_one c.args.history.now c.args.spans.now c.loop-step.step-index first.from c.loop-step.at s.from s.to s.ground
+    climb_one c.args.history.now c.args.spans.now c.loop-step.step-index first.from c.loop-step.at s.from s.to s.why
     c.loop-step.invariant same (c.holds.ensures c.if-not-holds.false)
 
 pub returns : goal.returns
