@@ -46,7 +46,7 @@ module _ (R A G : RattleType) (r : records.Ghosts R.Denot) (a : accesses.Ghosts 
   sched_send sr sa sg = search (sendable, crosses, expr.crosses, statement.crosses, live_send, fates_send) depth 40
 
   engine_send : IsSend R → IsSend A → IsSend G → IsSend (Engine.the_field R A G r a g).row
-  engine_send sr sa sg = let s = sched_send sr sa sg in search (sendable, crosses, history_send, database_send) depth 40
+  engine_send sr sa sg = let s = sched_send sr sa sg in search (sendable, crosses, history_send, database_send) depth 40 fits 8000
 
 per_key_send : IsSend (PerKey.the_field).row
 per_key_send = search (sendable, crosses) depth 40

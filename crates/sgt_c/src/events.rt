@@ -153,7 +153,11 @@ fn step(held: &mut Held, t: Tid, reply: &mut SgtReply) -> Result<(), NoMemory>
         → is_ending r ≡ true
         → IsOk result }
 {
-    let stepped = held.engine.answer_step(t)?;
-    write_reply(reply, &stepped, held.engine.reply_lists());
-    Ok(())
+    match held.engine.answer_step(t) {
+        Ok(stepped) => {
+            write_reply(reply, &stepped, held.engine.reply_lists());
+            Ok(())
+        }
+        Err(NoMemory) => Err(NoMemory),
+    }
 }

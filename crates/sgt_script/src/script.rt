@@ -127,14 +127,14 @@ fn answer_event(
     ensures kept { OnErr result (text.new.items ≡ text.old.items) }
 {
     match event {
-        Event::Step(t) => {
-            let reply = engine.answer_step(*t)?;
-            append_answer(engine, &reply, output, text)
-        }
-        _ => {
-            engine.answer(event, reply)?;
-            append_answer(engine, reply, output, text)
-        }
+        Event::Step(t) => match engine.answer_step(*t) {
+            Ok(reply) => append_answer(engine, &reply, output, text),
+            Err(NoMemory) => Err(NoMemory),
+        },
+        _ => match engine.answer(event, reply) {
+            Ok(()) => append_answer(engine, reply, output, text),
+            Err(NoMemory) => Err(NoMemory),
+        },
     }
 }
 

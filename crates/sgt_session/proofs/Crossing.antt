@@ -47,7 +47,7 @@ module _ (R A G : RattleType) (r : records.Ghosts R.Denot) (a : accesses.Ghosts 
     crosses,
     history.the_send,
     database_send,
-  ) depth 40
+  ) depth 40 fits 8000
 
   module _ (N : RattleType) (n : named.Ghosts N.Denot) (l : ledger.Ghosts N.Denot) where
     round_send : IsSend N → IsSend R → IsSend A → IsSend G → IsSend (Round.the_field N R A G n l r a g).row

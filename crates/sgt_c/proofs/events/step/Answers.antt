@@ -5,9 +5,9 @@ use Rattle.sgt_engine.specs.Guarantees.{Guarantees}
 use Rattle.sgt_c.specs.ReplyStructs.{HoldsReply}
 use Rattle.sgt_c.proofs.events.step.Goals as goal
 
-pub returns-clause-ok : goal.returns-clause-ok
-returns-clause-ok c =
-    let done = c.in_ok-stepped.ensures.adds in (
+pub returns-in-Ok-clause-ok : goal.returns-in-Ok-clause-ok
+returns-in-Ok-clause-ok c =
+    let done = c.in-Ok.ensures.adds in (
       done.reply,
       (
         ap (λ (e : EngineView). Some (record { engine = e; part = c.args.held.now.part })) done.adds,
