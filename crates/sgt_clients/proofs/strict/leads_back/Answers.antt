@@ -7,7 +7,7 @@ use Rattle.sgt_clients.proofs.strict.leads_back.Goals as goal
 
 pub loop-step-preserved : goal.loop-step-preserved
 loop-step-preserved c =
-    let none : Passage = record { from = 0; to = 0; ground = None } in
+    let none : Passage = record { from = 0; to = 0; why = None } in
     let s : Passage = slice_index_or c.args.steps.now c.loop-step.step-index none in
     let first : Passage = slice_index_or c.args.steps.now 0 none in
     let same : s.from ≡ c.loop-step.at = search rules in
@@ -16,7 +16,7 @@ loop-step-preserved c =
 
 pub returns : goal.returns
 returns c = λ back once.
-    let none : Passage = record { from = 0; to = 0; ground = None } in
+    let none : Passage = record { from = 0; to = 0; why = None } in
     let first : Passage = slice_index_or c.args.steps.now 0 none in
     let some : 0 < c.loop-step.step-index = grind (arith, nat_tests, c.is_empty.ensures, c.if-is_empty.false, c.loop-step-test.false) in
     no_order c.args.history.now c.args.spans.now c.loop-step.step-index first.from c.loop-step.at c.loop-step.invariant
