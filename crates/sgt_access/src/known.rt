@@ -156,21 +156,29 @@ fn begin(lists: &mut NumberLists, known: &mut Known) -> Result<(), NoMemory>
 }
 
 /// Stores an access in the list of its transaction. If that is full, or if all accesses are of one transaction, it is stored
-/// with the others. It allocates nothing.
+/// with the others. It allocates nothing. The access comes in parts, so that it is written once, to its place.
 #[inline(always)]
-pub fn store(accesses: &mut Vec<Access>, lists: &mut NumberLists, is_alone: bool, access: Access)
+pub fn store(
+    accesses: &mut Vec<Access>,
+    lists: &mut NumberLists,
+    is_alone: bool,
+    by: Tid,
+    key: Key,
+    kind: Kind,
+)
     requires { vec_len accesses.old < vec_capacity accesses.old }
-    ensures stands { StandsFor ((accesses.old.items ++ lists.old) ++ access ∷ []) (accesses.new.items ++ lists.new) }
+    ensures stands { StandsFor ((accesses.old.items ++ lists.old) ++ record { by = by; key = key; kind = kind } ∷ [])
+        (accesses.new.items ++ lists.new) }
     ensures alone { IsTrue is_alone → lists.new ≡ lists.old }
 {
     if is_alone {
-        accesses.push_reserved(access);
+        accesses.push_reserved(Access { by, key, kind });
         return;
     }
-    if lists.add(access) {
+    if lists.add(Access { by, key, kind }) {
         return;
     }
-    accesses.push_reserved(access);
+    accesses.push_reserved(Access { by, key, kind });
 }
 
 /// Removes the accesses of a transaction.

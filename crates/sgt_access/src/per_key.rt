@@ -68,7 +68,7 @@ impl Accesses for PerKey {
     fn note(&mut self, t: Tid, key: Key, kind: Kind) {
         let access = Access { by: t, key, kind };
         let is_alone = self.known.add(access, self.accesses.as_slice());
-        store(&mut self.accesses, &mut self.lists, is_alone, access);
+        store(&mut self.accesses, &mut self.lists, is_alone, t, key, kind);
         self.whole.note(access);
     }
 

@@ -176,24 +176,9 @@ impl<R: Records, A: Accesses, G: Graph> Engine<R, A, G> {
     }
 
     /// The same, with the reply in short, which is written to its place: [`Engine::reply_lists`] lends its lists until the next
-    /// event.
-    pub fn answer(&mut self, event: &Event, reply: &mut ShortReply) -> Result<(), NoMemory>
-        ensures adds { OnOk result (Answers event.now self.old reply.new self.new) }
-        ensures guarantees { Guarantees self.new }
-        ensures alone { OnOk result ((t : ℕ) → IsAlone self.old.past t → IsNoQuitOf event.now t → (r : Reply)
-            → short_reply r ≡ reply.new → is_hindered r ≡ false) }
-        ensures unchanged { OnErr result (self.new ≡ self.old) }
-        ensures no_memory { (r : Reply) → LegalReply (configuration_of self.old) self.old.past event.now r
-            → is_ending r ≡ true
-            → IsOk result }
-        ensures quits { (t : ℕ) → event.now ≡ Quit t → live self.old.past t ≡ true → IsOk result }
-    {
-        self.answer_inline(event, reply)
-    }
-
-    /// The same, compiled into its caller: for one whose events are of one kind, so that the kind is not tested at run time.
+    /// event. It is compiled into its caller, except for steps.
     #[inline(always)]
-    pub fn answer_inline(&mut self, event: &Event, reply: &mut ShortReply) -> Result<(), NoMemory>
+    pub fn answer(&mut self, event: &Event, reply: &mut ShortReply) -> Result<(), NoMemory>
         ensures adds { OnOk result (Answers event.now self.old reply.new self.new) }
         ensures guarantees { Guarantees self.new }
         ensures alone { OnOk result ((t : ℕ) → IsAlone self.old.past t → IsNoQuitOf event.now t → (r : Reply)
@@ -217,6 +202,29 @@ impl<R: Records, A: Accesses, G: Graph> Engine<R, A, G> {
         self.history.push(event, reply, &self.lists);
         note_removal(&mut self.has_removal, reply);
         Ok(())
+    }
+
+    /// The same, with steps compiled into its caller too: for one with many steps, or with events of one kind, so that the kind is
+    /// not tested at run time.
+    #[inline(always)]
+    pub fn answer_inline(&mut self, event: &Event, reply: &mut ShortReply) -> Result<(), NoMemory>
+        ensures adds { OnOk result (Answers event.now self.old reply.new self.new) }
+        ensures guarantees { Guarantees self.new }
+        ensures alone { OnOk result ((t : ℕ) → IsAlone self.old.past t → IsNoQuitOf event.now t → (r : Reply)
+            → short_reply r ≡ reply.new → is_hindered r ≡ false) }
+        ensures unchanged { OnErr result (self.new ≡ self.old) }
+        ensures no_memory { (r : Reply) → LegalReply (configuration_of self.old) self.old.past event.now r
+            → is_ending r ≡ true
+            → IsOk result }
+        ensures quits { (t : ℕ) → event.now ≡ Quit t → live self.old.past t ≡ true → IsOk result }
+    {
+        match event {
+            Event::Step(t) => {
+                *reply = self.answer_step(*t)?;
+                Ok(())
+            }
+            _ => self.answer(event, reply),
+        }
     }
 
     /// Answers a step as [`Engine::answer`] does, compiled into its caller, and returns the reply in short: a caller that takes it

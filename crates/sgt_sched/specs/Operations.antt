@@ -1,5 +1,5 @@
 -- What an access does with a record: its kind, and what the procedure or the caller wants next.
-use Rattle.std.specs.Prelude.{ℕ, IfSome}
+use Rattle.std.specs.Prelude.{ℕ, ℤ, Option, IfSome}
 use Rattle.sgt_model.specs.declared.kind.Kind.{Kind}
 use Rattle.sgt_model.specs.declared.kind.Kind.TheVariants as kind
 use Rattle.sgt_model.specs.Contents.{Key}
@@ -16,6 +16,11 @@ use Rattle.sgt_sched.specs.declared.operation.Operation.TheVariants.{Look, Store
 abbrev pub kind_of : Operation → Kind
 kind_of Look = kind.Look
 kind_of (Store v) = kind.Store
+
+-- the operation of a kind, which writes this if it writes
+abbrev pub of_kind : Kind → Option ℤ → Operation
+of_kind kind.Look v = Look
+of_kind kind.Store v = Store v
 
 -- what a live transaction does next, by its next step without the answers
 abbrev pub next_by : State → ℕ → Ahead → Next

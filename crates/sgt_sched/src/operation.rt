@@ -1,7 +1,7 @@
 //! What an access does with a record.
 ghost use Rattle.std.specs.Prelude.{◌≡◌, true, false, IfSome, IsNone};
 ghost use Rattle.sgt_model.specs.Progress.{requested, is_fit};
-ghost use Rattle.sgt_sched.specs.Operations.{kind_of, next_of, WritesValue};
+ghost use Rattle.sgt_sched.specs.Operations.{kind_of, next_of, of_kind, WritesValue};
 
 use sgt_model::{Key, Kind, Request, is_value};
 
@@ -23,6 +23,29 @@ impl Operation {
         match self {
             Operation::Look => Kind::Look,
             Operation::Store(_) => Kind::Store,
+        }
+    }
+
+    /// Its kind, and what it writes if it writes.
+    #[inline(always)]
+    pub fn parts(self) -> (Kind, Option<i64>)
+        ensures kind { result.0 ≡ kind_of self }
+        ensures same { of_kind result.0 result.1 ≡ self }
+    {
+        match self {
+            Operation::Look => (Kind::Look, None),
+            Operation::Store(value) => (Kind::Store, value),
+        }
+    }
+
+    /// The operation of this kind. If it writes, it writes this.
+    #[inline(always)]
+    pub fn of(kind: Kind, value: Option<i64>) -> Operation
+        ensures { result ≡ of_kind kind value }
+    {
+        match kind {
+            Kind::Look => Operation::Look,
+            Kind::Store => Operation::Store(value),
         }
     }
 }

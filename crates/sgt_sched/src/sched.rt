@@ -118,10 +118,7 @@ impl<R: Records, A: Accesses, G: Graph> Sched<R, A, G> {
     {
         match event {
             Event::Start { procedure, args } => self.answer_start(*procedure, args, reply),
-            Event::Step(t) => {
-                *reply = self.answer_step(*t, lists, reply)?;
-                Ok(())
-            }
+            Event::Step(t) => self.answer_step_called(*t, lists, reply),
             Event::Access(t, request) => self.answer_request(*t, request, lists, reply),
             Event::Commit(t) => {
                 self.answer_commit(*t, lists, reply);

@@ -3,6 +3,7 @@ ghost use Rattle.std.specs.Prelude.{◌≡◌, ◌≢◌, ℕ, List, Option, fal
 ghost use Rattle.std.specs.Io.KnownBytes.{Appends, Consumes};
 ghost use Rattle.sgt_model.specs.declared.entry.Entry.{Entry};
 ghost use Rattle.sgt_model.specs.Legality.{Legal};
+ghost use Rattle.sgt_model.specs.ShortReplies.{short_reply};
 ghost use Rattle.sgt_engine.specs.EngineView.{configuration_of};
 ghost use Rattle.sgt_format.specs.ScriptLines.{line_of, script_line_of};
 ghost use Rattle.sgt_input.specs.Lines.{has_break};
@@ -109,7 +110,7 @@ fn next_script_line<S: Source>(
     Ok(Some(kind))
 }
 
-/// Answers an event, and appends the text of the answer. The reply is written to a place that all events share.
+/// Answers an event, and appends the text of the answer. Most are steps.
 #[inline(always)]
 fn answer_event(
     engine: &mut SgtEngine,
@@ -125,12 +126,35 @@ fn answer_event(
     ensures legal { Legal (configuration_of engine.new) engine.new.past }
     ensures kept { OnErr result (text.new.items ≡ text.old.items) }
 {
-    match engine.answer(event, reply) {
-        Ok(()) => match output {
-            Output::Replies => append_short_reply(text, reply, engine.reply_lists()),
-            _ => append_other(engine, output, text),
+    match event {
+        Event::Step(t) => match engine.answer_step(*t) {
+            Ok(reply) => append_answer(engine, &reply, output, text),
+            Err(NoMemory) => Err(NoMemory),
         },
-        Err(NoMemory) => Err(NoMemory),
+        _ => match engine.answer(event, reply) {
+            Ok(()) => append_answer(engine, reply, output, text),
+            Err(NoMemory) => Err(NoMemory),
+        },
+    }
+}
+
+/// Appends what an output mode says of the newest entry, which has this reply.
+#[inline(always)]
+fn append_answer(
+    engine: &SgtEngine,
+    reply: &ShortReply,
+    output: Output,
+    text: &mut Vec<u8>,
+) -> Result<(), NoMemory>
+    requires { 0 < length engine.now.past }
+    ensures answered { OnOk result ((entry : Entry) → (past : List Entry) → (engine.now.past ≡ entry ∷ past)
+        → (short_reply entry.reply ≡ reply.now)
+        → text.new.items ≡ text.old.items ++ answer_text output (Replied entry)) }
+    ensures kept { OnErr result (text.new.items ≡ text.old.items) }
+{
+    match output {
+        Output::Replies => append_short_reply(text, reply, engine.reply_lists()),
+        _ => append_other(engine, output, text),
     }
 }
 

@@ -7,7 +7,7 @@ ghost use Rattle.sgt_sched.specs.Replies.{WithLists, with_reply};
 ghost use Rattle.sgt_sched.specs.Endings.{EndsOne};
 ghost use Rattle.sgt_sched.specs.Scheduler.{state, asks_of, Tries};
 
-use crate::operation::{Operation, operation_of};
+use crate::operation::operation_of;
 use crate::sched::Sched;
 use sgt_access::Accesses;
 use sgt_graph::Graph;
@@ -41,10 +41,7 @@ impl<R: Records, A: Accesses, G: Graph> Sched<R, A, G> {
             *reply = ShortReply::BadArgs;
             return Ok(());
         };
-        *reply = match operation {
-            Operation::Look => self.look(t, index, key, lists, reply),
-            Operation::Store(value) => self.store(t, index, key, value, lists, reply),
-        }?;
+        *reply = self.access(t, index, key, operation, lists, reply)?;
         Ok(())
     }
 

@@ -1,13 +1,15 @@
 //! Steps.
-ghost use Rattle.std.specs.Prelude.{◌≡◌, ◌≢◌, ℕ, true, [], position, Some, IfSome, IsTrue, OnErr, ◌↔◌};
+ghost use Rattle.std.specs.Prelude.{◌≡◌, ◌≢◌, ◌<◌, ℕ, true, [], position, Some, IsTrue, OnErr, OnOk, ◌↔◌};
 ghost use Rattle.std.specs.Result.{IsOk};
+ghost use Rattle.std.specs.Vec.{vec_len, vec_capacity};
 ghost use Rattle.sgt_model.specs.declared.event.Event.TheVariants.{Step};
 ghost use Rattle.sgt_model.specs.declared.kind.Kind.TheVariants.{Look, Store};
-ghost use Rattle.sgt_model.specs.CallEffects.{StepEffect, StepOn, MakesLook, MakesStore};
-ghost use Rattle.sgt_model.specs.Numbers.{IsValue};
-ghost use Rattle.sgt_model.specs.Traces.{Looks, Puts, Raises};
+ghost use Rattle.sgt_model.specs.Contents.{Key};
+ghost use Rattle.sgt_model.specs.CallEffects.{StepEffect, StepOn};
+ghost use Rattle.sgt_model.specs.Traces.{Raises};
 ghost use Rattle.sgt_model.specs.Paths.{Member};
 ghost use Rattle.sgt_cycle.specs.Path.{NoPath};
+ghost use Rattle.sgt_sched.specs.Operations.{kind_of, next_of, of_kind, WritesValue};
 ghost use Rattle.sgt_sched.specs.Replies.{WithLists, WithAnyLists, with_reply};
 ghost use Rattle.sgt_sched.specs.Endings.{EndsOne, IsBlocked};
 ghost use Rattle.sgt_sched.specs.LiveList.{has_number};
@@ -15,6 +17,7 @@ ghost use Rattle.sgt_sched.specs.Scheduler.{parts, state, asks_of, Turns, Tries,
 ghost use Rattle.sgt_sched.specs.Steps.{AreRivals};
 
 use crate::follow::follow;
+use crate::operation::Operation;
 use crate::reads::note_read;
 use crate::sched::Sched;
 use sgt_access::Accesses;
@@ -65,172 +68,132 @@ impl<R: Records, A: Accesses, G: Graph> Sched<R, A, G> {
             self.answer_not_live(t, lists, late);
             return Ok(*late);
         };
-        match self.ahead_at(t, index) {
-            Ahead::Look(key) => self.look(t, index, key, lists, late),
-            Ahead::Put(key, value) => self.store(t, index, key, value, lists, late),
-            Ahead::Ends => Ok(ShortReply::Ended),
-            Ahead::Asks(code) => Ok(self.step_raised(t, code, lists)),
-        }
-    }
-
-    // Makes a read of a live transaction, which has this index. If it would close a cycle, it aborts the transaction. Most
-    // have no rival.
-    #[inline(always)]
-    pub(super) fn look(
-        &mut self,
-        t: Tid,
-        index: usize,
-        key: Key,
-        lists: &mut ReplyLists,
-        late: &mut ShortReply,
-    ) -> Result<ShortReply, NoMemory>
-        requires live { (state self.old).nodes t ≡ true }
-        requires at { position (has_number t) (parts self.old).live ≡ Some index }
-        ensures done { Tries (WithLists (StepOn (asks_of self.old) t (Looks key)) lists.new) self.old result self.new }
-        ensures lists { OnErr result (lists.new ≡ lists.old) }
-        ensures no_memory { IsBlocked (state self.old) t key Look → IsOk result }
-    {
-        if self.accesses.has_rival(t, key, Kind::Look) {
-            self.look_after(t, index, key, lists, late)?;
-            return Ok(*late);
-        }
-        self.make_look(t, index, key, &Tids::new(), Link::default())
-    }
-
-    // The same, if there are rivals. It is called, so that `look` stays small: from a function that would grow very large the
-    // compiler drops `inline(always)`, without a message.
-    #[inline(never)]
-    fn look_after(
-        &mut self,
-        t: Tid,
-        index: usize,
-        key: Key,
-        lists: &mut ReplyLists,
-        late: &mut ShortReply,
-    ) -> Result<(), NoMemory>
-        requires live { (state self.old).nodes t ≡ true }
-        requires at { position (has_number t) (parts self.old).live ≡ Some index }
-        ensures done { Tries (WithLists (StepOn (asks_of self.old) t (Looks key)) lists.new) self.old (with_reply result late.new) self.new }
-        ensures lists { OnErr result (lists.new ≡ lists.old) }
-        ensures no_memory { IsBlocked (state self.old) t key Look → IsOk result }
-    {
-        let rivals = self.accesses.rivals(t, key, Kind::Look);
-        let Some(link) = self.plan_or_abort(t, &rivals, lists) else {
-            *late = ShortReply::Aborted(ShortCause::Cycle);
-            return Ok(());
+        let (key, operation) = match self.ahead_at(t, index) {
+            Ahead::Look(key) => (key, Operation::Look),
+            Ahead::Put(key, value) => (key, Operation::Store(value)),
+            Ahead::Ends => return Ok(ShortReply::Ended),
+            Ahead::Asks(code) => return Ok(self.step_raised(t, code, lists)),
         };
-        *late = self.make_look(t, index, key, &rivals, link)?;
+        self.access(t, index, key, operation, lists, late)
+    }
+
+    // The same, as a call that writes the reply to its place: for callers of which most events are no steps.
+    #[inline(never)]
+    pub(super) fn answer_step_called(
+        &mut self,
+        t: Tid,
+        lists: &mut ReplyLists,
+        reply: &mut ShortReply,
+    ) -> Result<(), NoMemory>
+        ensures done { Tries (WithLists (StepEffect (asks_of self.old) t) lists.new) self.old (with_reply result reply.new) self.new }
+        ensures lists { OnErr result (lists.new ≡ lists.old) }
+        ensures no_memory { EndsOne (asks_of self.old) (Step t) (state self.old) → IsOk result }
+    {
+        *reply = self.answer_step(t, lists, reply)?;
         Ok(())
     }
 
-    // Makes a write of a live transaction, which has this index. If it would close a cycle, it aborts the transaction. Most
+    // Makes an access of a live transaction, which has this index. If it would close a cycle, it aborts the transaction. Most
     // have no rival.
     #[inline(always)]
-    pub(super) fn store(
+    pub(super) fn access(
         &mut self,
         t: Tid,
         index: usize,
         key: Key,
-        value: Option<i64>,
+        operation: Operation,
         lists: &mut ReplyLists,
         late: &mut ShortReply,
     ) -> Result<ShortReply, NoMemory>
         requires live { (state self.old).nodes t ≡ true }
         requires at { position (has_number t) (parts self.old).live ≡ Some index }
-        requires in_range { IfSome value IsValue }
-        ensures done { Tries (WithLists (StepOn (asks_of self.old) t (Puts key value)) lists.new) self.old result self.new }
+        requires in_range { WritesValue operation }
+        ensures done { Tries (WithLists (StepOn (asks_of self.old) t (next_of key operation)) lists.new) self.old result self.new }
         ensures lists { OnErr result (lists.new ≡ lists.old) }
-        ensures no_memory { IsBlocked (state self.old) t key Store → IsOk result }
+        ensures no_memory { IsBlocked (state self.old) t key (kind_of operation) → IsOk result }
     {
-        if self.accesses.has_rival(t, key, Kind::Store) {
-            self.store_after(t, index, key, value, lists, late)?;
+        let (kind, value) = operation.parts();
+        if self.accesses.has_rival(t, key, kind) {
+            self.access_after(t, index, key, kind, value, lists, late)?;
             return Ok(*late);
         }
-        self.make_store(t, index, key, value, &Tids::new(), Link::default())
+        self.make_access(t, index, key, operation, &Tids::new(), Link::default())
     }
 
-    // The same, if there are rivals. It is called, so that `store` stays small: from a function that would grow very large the
-    // compiler drops `inline(always)`, without a message.
+    // The same, if there are rivals. It is called, so that `access` stays small: from a function that would grow very large the
+    // compiler drops `inline(always)`, without a message. The operation comes in parts, so that its callers never write it to
+    // memory.
     #[inline(never)]
-    fn store_after(
+    fn access_after(
         &mut self,
         t: Tid,
         index: usize,
         key: Key,
+        kind: Kind,
         value: Option<i64>,
         lists: &mut ReplyLists,
         late: &mut ShortReply,
     ) -> Result<(), NoMemory>
         requires live { (state self.old).nodes t ≡ true }
         requires at { position (has_number t) (parts self.old).live ≡ Some index }
-        requires in_range { IfSome value IsValue }
-        ensures done { Tries (WithLists (StepOn (asks_of self.old) t (Puts key value)) lists.new) self.old (with_reply result late.new) self.new }
+        requires in_range { WritesValue (of_kind kind value) }
+        ensures done { Tries (WithLists (StepOn (asks_of self.old) t (next_of key (of_kind kind value))) lists.new) self.old (with_reply result late.new) self.new }
         ensures lists { OnErr result (lists.new ≡ lists.old) }
-        ensures no_memory { IsBlocked (state self.old) t key Store → IsOk result }
+        ensures no_memory { IsBlocked (state self.old) t key (kind_of (of_kind kind value)) → IsOk result }
     {
-        let rivals = self.accesses.rivals(t, key, Kind::Store);
+        let operation = Operation::of(kind, value);
+        let rivals = self.accesses.rivals(t, key, operation.kind());
         let Some(link) = self.plan_or_abort(t, &rivals, lists) else {
             *late = ShortReply::Aborted(ShortCause::Cycle);
             return Ok(());
         };
-        *late = self.make_store(t, index, key, value, &rivals, link)?;
+        *late = self.make_access(t, index, key, operation, &rivals, link)?;
         Ok(())
     }
 
-    // Makes a read of a live transaction, which has this index, after these writers.
+    // Makes an access of a live transaction, which has this index, after these rivals.
     #[inline(always)]
-    fn make_look(
+    fn make_access(
         &mut self,
         t: Tid,
         index: usize,
         key: Key,
-        writers: &Tids,
-        link: Link,
-    ) -> Result<ShortReply, NoMemory>
-        requires live { (state self.old).nodes t ≡ true }
-        requires at { position (has_number t) (parts self.old).live ≡ Some index }
-        requires writers { AreRivals (state self.old) t key Look writers.now }
-        requires free { NoPath (state self.old).pairs t writers.now }
-        requires planned { writers.now ≢ [] → G.is_planned (parts self.old).graph t writers.now link }
-        ensures { Tries (WithAnyLists (MakesLook t key)) self.old result self.new }
-    {
-        let top = self.records.top(key);
-        let value = top.value();
-        self.accesses.reserve(key)?;
-        self.read_from.reserve(1)?;
-        follow(&mut self.graph, t, writers, link);
-        self.accesses.note(t, key, Kind::Look);
-        note_read(&mut self.read_from, &top, t);
-        self.live.look(t, index, &self.procedures, value);
-        Ok(ShortReply::Looked { key, value })
-    }
-
-    // Makes a write of a live transaction, which has this index, after these rivals.
-    #[inline(always)]
-    fn make_store(
-        &mut self,
-        t: Tid,
-        index: usize,
-        key: Key,
-        value: Option<i64>,
+        operation: Operation,
         rivals: &Tids,
         link: Link,
     ) -> Result<ShortReply, NoMemory>
         requires live { (state self.old).nodes t ≡ true }
         requires at { position (has_number t) (parts self.old).live ≡ Some index }
-        requires in_range { IfSome value IsValue }
-        requires rivals { AreRivals (state self.old) t key Store rivals.now }
+        requires in_range { WritesValue operation }
+        requires rivals { AreRivals (state self.old) t key (kind_of operation) rivals.now }
         requires free { NoPath (state self.old).pairs t rivals.now }
         requires planned { rivals.now ≢ [] → G.is_planned (parts self.old).graph t rivals.now link }
-        ensures { Tries (WithAnyLists (MakesStore t key value)) self.old result self.new }
+        ensures { Tries (WithAnyLists (StepOn (asks_of self.old) t (next_of key operation))) self.old result self.new }
     {
-        self.records.reserve(key)?;
-        self.accesses.reserve(key)?;
+        let kind = operation.kind();
+        reserve_access(
+            &mut self.records,
+            &mut self.accesses,
+            &mut self.read_from,
+            key,
+            kind,
+        )?;
         follow(&mut self.graph, t, rivals, link);
-        self.records.write(t, key, value);
-        self.accesses.note(t, key, Kind::Store);
-        self.live.store(t, index, &self.procedures);
-        Ok(ShortReply::Wrote { key, value })
+        self.accesses.note(t, key, kind);
+        match operation {
+            Operation::Look => {
+                let top = self.records.top(key);
+                let value = top.value();
+                note_read(&mut self.read_from, &top, t);
+                self.live.look(t, index, &self.procedures, value);
+                Ok(ShortReply::Looked { key, value })
+            }
+            Operation::Store(value) => {
+                self.records.write(t, key, value);
+                self.live.store(t, index, &self.procedures);
+                Ok(ShortReply::Wrote { key, value })
+            }
+        }
     }
 
     // Returns what links edges from these rivals to a live transaction. If they would close a cycle, it aborts the transaction;
@@ -296,4 +259,30 @@ impl<R: Records, A: Accesses, G: Graph> Sched<R, A, G> {
             Verdict::Closes(_) => true,
         }
     }
+}
+
+// Provides capacity for an access of this kind: in the access list, and in what the access changes besides.
+#[inline(always)]
+fn reserve_access<R: Records, A: Accesses>(
+    records: &mut R,
+    accesses: &mut A,
+    read_from: &mut Vec<(Tid, Tid)>,
+    key: Key,
+    kind: Kind,
+) -> Result<(), NoMemory>
+    ensures chain { (k : Key) → R.chain records.new k ≡ R.chain records.old k }
+    ensures settled { (k : Key) → R.settled records.new k ≡ R.settled records.old k }
+    ensures accesses { A.list accesses.new ≡ A.list accesses.old }
+    ensures reads { read_from.new.items ≡ read_from.old.items }
+    ensures listing { OnOk result (A.is_ready accesses.new key) }
+    ensures reading { OnOk result (kind ≡ Look → vec_len read_from.new < vec_capacity read_from.new) }
+    ensures writing { OnOk result (kind ≡ Store → R.is_ready records.new key) }
+    ensures looking { kind ≡ Look → records.new ≡ records.old }
+{
+    accesses.reserve(key)?;
+    match kind {
+        Kind::Look => read_from.reserve(1)?,
+        Kind::Store => records.reserve(key)?,
+    }
+    Ok(())
 }

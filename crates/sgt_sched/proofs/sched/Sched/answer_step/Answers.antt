@@ -8,32 +8,9 @@ use Rattle.sgt_proc.specs.Nexts.{answers_at}
 use Rattle.sgt_sched.specs.Operations.{next_by}
 use Rattle.sgt_sched.proofs.Stepped.{steps_on, not_live}
 use Rattle.sgt_sched.specs.Endings.{StepEnds}
+use Rattle.sgt_sched.specs.Replies.{with_reply}
 use Rattle.sgt_sched.specs.Scheduler.{state}
 use Rattle.sgt_sched.proofs.sched.Sched.answer_step.Goals as goal
-
-pub returns-in-Look-clause-done : goal.returns-in-Look-clause-done
-returns-in-Look-clause-done g c = record {
-  done = IfOk-weaker c.look.result _ _
-      (λ b done. (steps_on c.args.self.now.limits.asks c.args.t _ (reply_with b c.look.new.lists) _ _
-      (c.in-Some.ensures.unended.0 refl).begun
-      (c.in-Some.ensures.unended.0 refl).unended (ap (next_by (state c.args.self.now) c.args.t) (sym c.in-Look.is)
-      ∙ c.ahead_at.ensures.next)) done)
-      c.look.ensures.done.done;
-  refused = c.look.ensures.done.refused;
-  kept = c.look.ensures.done.kept;
-}
-
-pub returns-in-Put-clause-done : goal.returns-in-Put-clause-done
-returns-in-Put-clause-done g c = record {
-  done = IfOk-weaker c.store.result _ _
-      (λ b done. (steps_on c.args.self.now.limits.asks c.args.t _ (reply_with b c.store.new.lists) _ _
-      (c.in-Some.ensures.unended.0 refl).begun
-      (c.in-Some.ensures.unended.0 refl).unended (ap (next_by (state c.args.self.now) c.args.t) (sym c.in-Put.is)
-      ∙ c.ahead_at.ensures.next)) done)
-      c.store.ensures.done.done;
-  refused = c.store.ensures.done.refused;
-  kept = c.store.ensures.done.kept;
-}
 
 pub returns-in-Ends-clause-done : goal.returns-in-Ends-clause-done
 returns-in-Ends-clause-done g c = record {
@@ -54,22 +31,6 @@ returns-in-Asks-clause-done g c = record {
   refused = tt;
   kept = c.step_raised.ensures.kept;
 }
-
-pub returns-in-Look-clause-lists : goal.returns-in-Look-clause-lists
-returns-in-Look-clause-lists g c = c.look.ensures.lists
-
-pub returns-in-Look-clause-no_memory : goal.returns-in-Look-clause-no_memory
-returns-in-Look-clause-no_memory g c e = c.look.ensures.no_memory
-    (subst (λ n. StepEnds c.args.self.now.limits.asks c.args.t n (state c.args.self.now))
-    (sym (ap (next_by (state c.args.self.now) c.args.t) (sym c.in-Look.is) ∙ c.ahead_at.ensures.next)) e.1)
-
-pub returns-in-Put-clause-lists : goal.returns-in-Put-clause-lists
-returns-in-Put-clause-lists g c = c.store.ensures.lists
-
-pub returns-in-Put-clause-no_memory : goal.returns-in-Put-clause-no_memory
-returns-in-Put-clause-no_memory g c e = c.store.ensures.no_memory
-    (subst (λ n. StepEnds c.args.self.now.limits.asks c.args.t n (state c.args.self.now))
-    (sym (ap (next_by (state c.args.self.now) c.args.t) (sym c.in-Put.is) ∙ c.ahead_at.ensures.next)) e.1)
 
 pub returns-in_default-clause-done : goal.returns-in_default-clause-done
 returns-in_default-clause-done g c = record {

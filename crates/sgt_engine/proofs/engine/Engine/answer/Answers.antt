@@ -10,7 +10,7 @@ use Rattle.sgt_engine.proofs.Alone.{undisturbed, legal_before}
 use Rattle.sgt_engine.proofs.Ends.{spare_left, ends_seen}
 use Rattle.sgt_engine.proofs.Entries.{added, same_configuration, short_with, kept_entry, entry_added, newest_added, too_old, legal_reply}
 use Rattle.sgt_engine.proofs.Guaranteed.{guaranteed}
-use Rattle.sgt_engine.proofs.engine.Engine.answer_inline.Goals as goal
+use Rattle.sgt_engine.proofs.engine.Engine.answer.Goals as goal
 
 pub invariant_of-self-2 : goal.invariant_of-self-2
 invariant_of-self-2 g c =
