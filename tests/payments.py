@@ -1874,6 +1874,11 @@ def hung_redis():
     return ends_while_away(Redis)
 
 
+def hung_postgresql():
+    """Over a PostgreSQL that is stopped, all its processes."""
+    return ends_while_away(Postgres)
+
+
 # A program that asks a PostgreSQL, cuts it off, and asks again, with the network of no other program. It writes whether it is away then.
 CUT_OFF = """
 import pathlib, subprocess, sys
@@ -2299,7 +2304,7 @@ def main():
     cases += [full_disk, failing_fsync, large_snapshots, pieces, deletions, failed_snapshot, little_space, renewals, huge_pages, begun_snapshots]
     cases += [jumping_clock, other_procedures, bad_procedures]
     cases += [killed_fronts, vanished_clients, leaving_clients, slow_clients, many_lines, greedy_clients, full_fronts, idle_clients]
-    cases += [promotion, fenced_over_etcd, fenced_over_redis, fenced_over_postgresql, forks, asked_node, silent_nodes, missing_modules, over_etcd, dying_nodes, ended_while_away, partitions, over_redis, hung_redis, forgetful_redis, redis_replicas, over_postgresql, forgetful_postgresql, cut_off_postgresql, postgresql_standby, crash_test]
+    cases += [promotion, fenced_over_etcd, fenced_over_redis, fenced_over_postgresql, forks, asked_node, silent_nodes, missing_modules, over_etcd, dying_nodes, ended_while_away, partitions, over_redis, hung_redis, forgetful_redis, redis_replicas, over_postgresql, forgetful_postgresql, hung_postgresql, cut_off_postgresql, postgresql_standby, crash_test]
     return run_cases([case for case in cases if not names or case.__name__ in names], of="payments")
 
 

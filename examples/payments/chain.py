@@ -22,8 +22,7 @@ def seal_batch(number: int, seq: int, calls: Union[Sequence[str], Opening]) -> b
 
 def unseal_batch(data: bytes, number: int, seq: int) -> Batch:
     """The calls of a batch, which stands where batch `number` is due, after call `seq`."""
-    found = unseal(data)
-    if found is None:
+    if (found := unseal(data)) is None:
         raise Unusable(f"batch {number} is damaged")
     if found[:2] != [number, seq + 1]:
         raise Unusable(f"where batch {number} with call {seq + 1} is due, there is batch {found[0]} with call {found[1]}")

@@ -94,8 +94,7 @@ def whole_lines(path: pathlib.Path) -> tuple[list[bytes], bytes]:
     A line is written when the one before it is safe. So a bad line before a good one is damage, and `Unusable` names the place. What is bad
     at the end may be a batch that a crash has torn, and that nobody was told of.
     """
-    data, at = path.read_bytes(), 0
-    found: list[bytes] = []
+    data, at, found = path.read_bytes(), 0, list[bytes]()
     lines = data.split(b"\n")[:-1]
     for place, line in enumerate(lines):
         if line and not is_whole(line):

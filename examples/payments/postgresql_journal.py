@@ -6,6 +6,7 @@ not promised: a standby that is promoted knows nothing of the old server. Whoeve
 
 import os
 from functools import partial
+from select import select
 from typing import Any, Optional
 from urllib.parse import SplitResult
 
@@ -14,8 +15,6 @@ import psycopg2
 from bank import Unusable
 from journal import AT_ONCE, LEASE, TRY, Away, Fenced, from_number, keep_alive, needed
 
-# In seconds, and the last one in milliseconds: until a PostgreSQL whose machine is cut off is away.
-LIMITS = {"connect_timeout": 2, "keepalives_idle": 1, "keepalives_interval": 1, "tcp_user_timeout": int(TRY * 1000)}
 # The lock is for servers that make the tables at the same time.
 TABLES = """set synchronous_commit = on; select pg_advisory_xact_lock(7501);
 create table if not exists batch (number bigint primary key, data bytea not null);
@@ -28,6 +27,16 @@ APPEND = """with ours as (select 1 from leader where nonce = %(nonce)s for share
 insert into batch select %(at)s, %(data)s from ours on conflict (number) do update set data = batch.data where batch.data = excluded.data returning 1"""
 
 
+def wait(link: Any) -> None:
+    """Waits for PostgreSQL, and not for ever. Where it is stopped nothing else would tell, as its machine still answers."""
+    while state := link.poll():  # 1 if it would read, 2 if it would write
+        if not any(select([link] * (state == 1), [link] * (state == 2), [], TRY)):
+            raise psycopg2.OperationalError("it does not answer")
+
+
+psycopg2.extensions.set_wait_callback(wait)
+
+
 class PostgresJournal:
     """postgresql://..: the tables `batch`, `leader` and `stored`. The row of who leads is locked while a batch is inserted: that fences."""
 
@@ -38,18 +47,16 @@ class PostgresJournal:
     def _ask(self, text: str, **values: Any) -> list[tuple[Any, ...]]:
         try:
             if self._link is None:
-                self._link = psycopg2.connect(self.address.geturl(), **LIMITS)
+                self._link = psycopg2.connect(self.address.geturl())
                 self._link.autocommit = True
                 if self._ask(TABLES) != [("on",)]:
                     raise Unusable("PostgreSQL: it must run with fsync on")
             with self._link.cursor() as cursor:
                 cursor.execute(text, values)
                 return list(cursor.fetchall()) if cursor.description else []
-        except (psycopg2.OperationalError, psycopg2.InterfaceError) as why:
-            self._link = None
-            raise Away(f"PostgreSQL: {why}") from None
         except psycopg2.Error as why:
-            raise Unusable(f"PostgreSQL: {why}") from None
+            self._link, is_away = None, isinstance(why, (psycopg2.OperationalError, psycopg2.InterfaceError))
+            raise (Away if is_away else Unusable)(f"PostgreSQL: {why}") from None
 
     def lead(self) -> bool:
         if leads := bool(self._ask(LEAD, nonce=self._nonce)):
@@ -65,8 +72,8 @@ class PostgresJournal:
             raise Fenced("PostgreSQL: another primary leads")
 
     def read(self, number: int) -> list[bytes]:
-        rows = self._ask(f"select data from batch where number >= %(at)s order by number limit {AT_ONCE}", at=number)
-        return from_number(number, [bytes(data) for data, in rows])
+        rows = f"select data from batch where number >= %(at)s order by number limit {AT_ONCE}"
+        return from_number(number, [bytes(data) for data, in self._ask(rows, at=number)])
 
     def stored(self, server: str, number: int, after: int) -> None:
         self._ask("insert into stored values (%(server)s, %(at)s) on conflict (server) do update set number = %(at)s", server=server, at=number)

@@ -58,8 +58,7 @@ class RedisJournal:
             raise Fenced("Redis: another primary leads")
 
     def read(self, number: int) -> list[bytes]:
-        entries = self._ask("XRANGE", self.name, f"{number}-0", "+", "COUNT", AT_ONCE)
-        return from_number(number, [fields[b"batch"] for _, fields in entries])
+        return from_number(number, [it[b"batch"] for _, it in self._ask("XRANGE", self.name, f"{number}-0", "+", "COUNT", AT_ONCE)])
 
     def stored(self, server: str, number: int, after: int) -> None:
         self._ask("HSET", self.name + ":stored", server, number)

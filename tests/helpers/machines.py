@@ -318,6 +318,20 @@ class Postgres:
         time.sleep(seconds)
         self.start()
 
+    @contextlib.contextmanager
+    def silent(self):
+        """It takes connections, and does not answer."""
+        first = (self.folder / "data" / "postmaster.pid").read_text().split()[0]
+        stopped = [int(it) for it in (first, *pathlib.Path(f"/proc/{first}/task/{first}/children").read_text().split())]
+        for it in stopped:
+            os.kill(it, signal.SIGSTOP)
+        try:
+            yield
+        finally:
+            for it in stopped:
+                with contextlib.suppress(ProcessLookupError):  # one may have been asked to end before it was stopped
+                    os.kill(it, signal.SIGCONT)
+
     def end(self):
         if self.has_begun:
             self.run("pg_ctl", "-D", self.folder / "data", "-m", "immediate", "-t", SECONDS, "-w", "stop")
