@@ -18,8 +18,7 @@ use std::sync::Wait;
 use std::sync::ledger::Share;
 
 /// Makes a step while holding the lock once, and appends its receipt, for which capacity is reserved. The result says what its
-/// entry is to a caller that makes one step after another. The event is made where it is passed, so that its kind is known
-/// there at compile time.
+/// entry is to a caller that makes one step after another.
 ///
 /// `NoMemory` if an allocation in the engine failed; then nothing has changed.
 #[inline(always)]
@@ -43,7 +42,7 @@ pub fn step_in_hold<N: Named, R: Records, A: Accesses, G: Graph, W: Wait>(
     // Most calls find the lock free. Then they have no turn to keep, and their event is not stored.
     match shared.lock_policy.try_lock(&shared.round, &capacity) {
         Some(mut round) => {
-            let kind = round.apply(&Event::Step(t), mine, receipts)?;
+            let kind = round.step(t, mine, receipts)?;
             Ok(kind)
         }
         None => step_in_turn(rt, shared, t, mine, receipts, capacity),

@@ -2,7 +2,7 @@
 ghost use Rattle.std.specs.Prelude.{◌≡◌, ◌+◌, ◌<◌, ◌≤◌, ℕ, true, [], ◌∷◌, ◌++◌, length, vec_len, vec_capacity, IfOk, OnOk, OnErr, reverse};
 ghost use Rattle.std.specs.List.{sum_by};
 ghost use Rattle.std.specs.Result.{IsOk};
-ghost use Rattle.sgt_model.specs.declared.event.Event.TheVariants.{Quit};
+ghost use Rattle.sgt_model.specs.declared.event.Event.TheVariants.{Quit, Step};
 ghost use Rattle.sgt_model.specs.Fates.{live};
 ghost use Rattle.sgt_model.specs.Legality.{Legal, LegalReply};
 ghost use Rattle.sgt_progress.specs.Progress.{MakesProgress};
@@ -19,7 +19,7 @@ use sgt_access::Accesses;
 use sgt_engine::Engine;
 use sgt_graph::Graph;
 use sgt_log::{History, StepKind};
-use sgt_model::{Event, NoMemory, ShortReply};
+use sgt_model::{Event, NoMemory, ShortReply, Tid};
 use sgt_records::Records;
 use std::marker::Model;
 use std::sync::ledger::{Book, Share};
@@ -30,7 +30,7 @@ use std::sync::ledger::{Book, Share};
 pub struct Round<N: Named, R: Records, A: Accesses, G: Graph> {
     engine: Box<Engine<R, A, G>>,
     calls: Book<N>,
-    // Where the engine writes each reply. Nothing reads what an earlier call left there.
+    // Where the engine writes the reply to an event of `apply`. Nothing reads what an earlier call left there.
     reply: ShortReply,
 }
 
@@ -86,7 +86,32 @@ impl<N: Named, R: Records, A: Accesses, G: Graph> Round<N, R, A, G> {
         ensures unchanged { OnErr result ((self.new ≡ self.old) × (mine.new ≡ mine.old) × (receipts.new ≡ receipts.old)) }
         ensures quits { (t : ℕ) → event.now ≡ Quit t → live self.old.past t ≡ true → IsOk result }
     {
-        self.engine.answer_inline(event, &mut self.reply)?;
+        self.engine.answer(event, &mut self.reply)?;
+        self.calls.add(mine, 1);
+        Ok(receipts.file_newest(self.engine.history()))
+    }
+
+    /// The same for a step, compiled into its caller. Its reply is never stored: the receipt is the history's newest entry.
+    #[inline(always)]
+    pub fn step(
+        &mut self,
+        t: Tid,
+        mine: &mut Share<N>,
+        receipts: &mut Receipts,
+    ) -> Result<StepKind, NoMemory>
+        requires part { 0 < mine.old.parts }
+        requires spare { 0 < receipts.old.spare }
+        ensures filed { IfOk result (λ kind. (r : Receipt) × (r.event ≡ Step t) × (r.number ≡ length self.old.past)
+            × (self.new ≡ with_entry r.event r.reply self.old)
+            × LegalReply (configuration_of self.old) self.old.past r.event r.reply
+            × (receipts.new.receipts ≡ receipts.old.receipts ++ r ∷ [])
+            × IsOfKind kind (entry_of r)) }
+        ensures counted { OnOk result (mine.new.amount ≡ mine.old.amount + 1) }
+        ensures parts { mine.new.parts ≡ mine.old.parts }
+        ensures spare { OnOk result (receipts.new.spare + 1 ≡ receipts.old.spare) }
+        ensures unchanged { OnErr result ((self.new ≡ self.old) × (mine.new ≡ mine.old) × (receipts.new ≡ receipts.old)) }
+    {
+        self.engine.answer_step(t)?;
         self.calls.add(mine, 1);
         Ok(receipts.file_newest(self.engine.history()))
     }

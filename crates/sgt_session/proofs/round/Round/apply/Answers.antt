@@ -6,7 +6,7 @@ use Rattle.sgt_session.proofs.round.Round.apply.Goals as goal
 
 pub returns-clause-filed : goal.returns-clause-filed
 returns-clause-filed g c =
-    let added = c.in_ok-answer_inline.ensures.adds in (
+    let added = c.in_ok-answer.ensures.adds in (
       receipt_of _ (record { event = c.args.event.now; reply = added.reply }),
       refl,
       refl,
@@ -19,6 +19,6 @@ returns-clause-filed g c =
 pub returns-clause-counted : goal.returns-clause-counted
 returns-clause-counted g c = c.add.ensures.amount
 
-pub returns-in_err-answer_inline-clause-quits : goal.returns-in_err-answer_inline-clause-quits
-returns-in_err-answer_inline-clause-quits g c = λ t quits live.
-    absurd (true≢false (sym (c.answer_inline.ensures.quits t quits (search (rules, live))) ∙ ap is_ok c.in_err-answer_inline.was))
+pub returns-in_err-answer-clause-quits : goal.returns-in_err-answer-clause-quits
+returns-in_err-answer-clause-quits g c = λ t quits live.
+    absurd (true≢false (sym (c.answer.ensures.quits t quits (search (rules, live))) ∙ ap is_ok c.in_err-answer.was))
