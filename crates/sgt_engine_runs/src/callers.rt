@@ -2,41 +2,18 @@
 //! caller goes on after its procedure's end. Then cuts the history, and prints the database that the next part begins with.
 //! That part has fewer events than records, and removes one more.
 
-use crate::accounts::{open, print_no_memory};
+use crate::accounts::{ACCOUNTS, LIMITS, open, print_no_memory};
 use crate::events::start;
 use crate::run::Run;
 use sgt_access::{Accesses, PerKey};
 use sgt_engine::Engine;
 use sgt_format::append_database;
 use sgt_graph::{BitGraph, Graph};
-use sgt_model::{Args, Asks, EMPTY_PROCEDURE, Event, Key, Limits, MOST, NoMemory, Request, Tid};
+use sgt_model::{Args, EMPTY_PROCEDURE, Event, Key, MOST, NoMemory, Request, Tid};
 use sgt_records::{Records, SlabRecords};
-use sgt_smallbank::Account;
 use std::alloc::{AllocGlobal, Global};
 use std::io;
 use std::io::{Print, Write};
-
-/// The accounts of the run.
-const ACCOUNTS: [Account; 2] = [
-    Account {
-        name: 1,
-        customer: 101,
-        saving: 500,
-        checking: 1000,
-    },
-    Account {
-        name: 2,
-        customer: 102,
-        saving: 0,
-        checking: 200,
-    },
-];
-
-const LIMITS: Limits = Limits {
-    live: 8,
-    begins: 100,
-    asks: Asks::AtStep,
-};
 
 /// The number of events before the cut, and of those after it.
 const BEFORE: u32 = 20;

@@ -2,40 +2,17 @@
 //! `tests/growths.py` makes them. Prints the events in which an allocation failed, and whether the history, the
 //! committed values and the live transactions are unchanged.
 
-use crate::accounts::{open, print_no_memory};
+use crate::accounts::{ACCOUNTS, LIMITS, open, print_no_memory};
 use crate::events::start;
 use crate::run::{Order, Run};
 use sgt_access::{Accesses, PerKey};
 use sgt_engine::Engine;
 use sgt_graph::{BitGraph, Graph};
-use sgt_model::{Asks, Event, Limits, NoMemory, Tid};
+use sgt_model::{Event, NoMemory, Tid};
 use sgt_records::{Records, SlabRecords};
-use sgt_smallbank::Account;
 use std::alloc::AllocGlobal;
 use std::io;
 use std::io::Print;
-
-/// The two accounts of the row.
-const ACCOUNTS: [Account; 2] = [
-    Account {
-        name: 1,
-        customer: 101,
-        saving: 500,
-        checking: 1000,
-    },
-    Account {
-        name: 2,
-        customer: 102,
-        saving: 0,
-        checking: 200,
-    },
-];
-
-const LIMITS: Limits = Limits {
-    live: 8,
-    begins: 100,
-    asks: Asks::AtStep,
-};
 
 /// Additional actions of a run.
 #[derive(Clone, Copy)]

@@ -1,5 +1,5 @@
 -- How many transactions a session must treat as live.
-use Rattle.std.proofs.Common.{◌≡◌, ℕ, ◌+◌, ◌<◌, ◌≤◌, Bool, true, false, cond, List, [], ◌∷◌, ◌++◌, length, Option, Some, None, refl, ap₂, sym, arith}
+use Rattle.std.proofs.Common.{◌≡◌, ℕ, ◌+◌, ◌<◌, ◌≤◌, Bool, true, false, cond, List, [], ◌∷◌, ◌++◌, length, Option, Some, None, refl, ap, ap₂, sym, ◌∙◌, arith}
 use Rattle.std.proofs.lemmas.List.{length-append}
 use Rattle.sgt_model.specs.declared.event.Event.{Event}
 use Rattle.sgt_model.specs.declared.event.Event.TheVariants.{Start, Step, Access, Commit, Quit}
@@ -59,6 +59,21 @@ fits own own' e r count spare spare' same reported enough counted used =
     let is : length (open_by own' r.event r.reply) ≡ length (open_by own e r.reply) = rw (same, reported) refl in
     let h = enough r.reply in
     omega (arith, h, is, counted, used)
+
+-- what a session counts, its own transactions, and the capacity for their ends, after a call
+pub after_call : (first old new : List Receipt) (own own' own'' : List ℕ) (e : Event) (r : Receipt) (amount amount' count spare spare' : ℕ)
+    → old ≡ first → new ≡ old ++ r ∷ [] → amount ≡ length first → amount' ≡ amount + 1
+    → own' ≡ own → own ≡ open_of first → own'' ≡ open_by own' r.event r.reply → r.event ≡ e
+    → ((x : Reply) → 1 + length (open_by own e x) ≤ spare) → count ≡ length (open_by own' r.event r.reply) → spare' + 1 ≡ spare
+    → (amount' ≡ length new) × (own'' ≡ open_of new) × (count ≤ spare')
+after_call first old new own own' own'' e r amount amount' count spare spare' same longer counted more kept is then event enough few used =
+    let one = length-append old (r ∷ []) in
+    let long = ap length longer in
+    let first_long = ap length same in (
+      omega (arith, one, long, first_long, counted, more),
+      noted first new own' own'' r (kept ∙ is) (rw same at longer) then,
+      fits own own' e r count spare spare' kept event enough few used,
+    )
 
 -- none is added or taken out
 pub quiet_own : (own : List ℕ) (e : Event) (r : Reply) → started_in e r ≡ None → over_in e r ≡ None → own ≡ open_by own e r

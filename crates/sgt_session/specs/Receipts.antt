@@ -1,8 +1,13 @@
 -- Single receipts.
-use Rattle.std.specs.Prelude.{◌≡◌, ℕ, true, List, [], ◌∷◌, slice_get, Some}
+use Rattle.std.specs.Prelude.{◌≡◌, ℕ, true, List, [], ◌∷◌, ◌++◌, length, slice_get, Some}
+use Rattle.sgt_model.specs.declared.event.Event.{Event}
 use Rattle.sgt_model.specs.declared.event.Event.TheVariants.{Commit}
 use Rattle.sgt_model.specs.declared.entry.Entry.{Entry}
+use Rattle.sgt_model.specs.Legality.{LegalReply}
 use Rattle.sgt_model.specs.Questions.{is_wait}
+use Rattle.sgt_log.specs.declared.step_kind.StepKind.{StepKind}
+use Rattle.sgt_log.specs.StepKinds.{IsOfKind}
+use Rattle.sgt_engine.specs.EngineView.{EngineView, configuration_of, with_entry}
 use Rattle.sgt_session.specs.declared.receipt.Receipt.{Receipt}
 
 -- the receipt of the entry of this number
@@ -23,6 +28,21 @@ pub record ReceiptsView : Type 0 where
 -- the entry of a receipt
 abbrev pub entry_of : Receipt → Entry
 entry_of r = record { event = r.event; reply = r.reply }
+
+-- a call of this event was made: its receipt is the last one
+abbrev pub HasCalled : Event → List Receipt → List Receipt → Type 0
+HasCalled event old new = (r : Receipt) × (r.event ≡ event) × (new ≡ old ++ r ∷ [])
+
+-- the same, and the receipt is of an entry of this kind
+abbrev pub HasMade : Event → List Receipt → List Receipt → StepKind → Type 0
+HasMade event old new kind = (r : Receipt) × (r.event ≡ event) × (new ≡ old ++ r ∷ []) × IsOfKind kind (entry_of r)
+
+-- the engine has answered this event legally, and the receipt of that entry, which is of this kind, is the last one
+abbrev pub HasFiled : Event → EngineView → EngineView → List Receipt → List Receipt → StepKind → Type 0
+HasFiled event before now old new kind = (r : Receipt) × (r.event ≡ event) × (r.number ≡ length before.past)
+    × (now ≡ with_entry r.event r.reply before)
+    × LegalReply (configuration_of before) before.past r.event r.reply
+    × (new ≡ old ++ r ∷ []) × IsOfKind kind (entry_of r)
 
 -- the receipt's entry is in the history, at its number
 abbrev pub ReceiptStands : List Entry → Receipt → Type 0

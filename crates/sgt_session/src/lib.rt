@@ -106,7 +106,6 @@
 mod accounts;
 mod close;
 mod end_signal;
-mod hold;
 mod lock_policy;
 mod named;
 mod new;

@@ -36,16 +36,6 @@ impl LockPolicy {
         }
     }
 
-    /// Takes the engine's lock, if it is free, for a call whose receipt has its capacity.
-    #[inline(always)]
-    pub fn try_lock<'l, T>(
-        &self,
-        lock: &'l Mutex<T>,
-        _capacity: &ReceiptCapacity,
-    ) -> Option<MutexGuard<'l, T>> {
-        lock.try_lock()
-    }
-
     /// Takes the engine's lock for a call of this event. A thread that finds it taken tries again some times. Before
     /// each try it yields to others, longer each time. Waking a sleeping thread costs the one that frees the lock more
     /// than a call. Trying too often slows the one that holds it.
@@ -70,6 +60,20 @@ impl LockPolicy {
         }
     }
 
+    /// Takes the engine's lock as `lock` does, for a call that starts no transaction: such a call has no turn to keep.
+    #[inline(always)]
+    pub fn lock_without_turn<'l, W: Wait, T>(
+        &self,
+        rt: &W,
+        lock: &'l Mutex<T>,
+        _spare: ReceiptCapacity,
+    ) -> MutexGuard<'l, T> {
+        match lock.try_lock() {
+            Some(guard) => guard,
+            None => look_for(rt, lock, PAUSE),
+        }
+    }
+
     /// Takes the engine's lock, which was found taken, for a call that starts a transaction or not.
     #[cold]
     #[inline(never)]
@@ -88,7 +92,9 @@ impl LockPolicy {
     }
 }
 
-/// Tries for the lock, the first time after this many yields.
+/// Tries for the lock, which was found taken, the first time after this many yields.
+#[cold]
+#[inline(never)]
 fn look_for<'l, W: Wait, T>(rt: &W, lock: &'l Mutex<T>, pause: u32) -> MutexGuard<'l, T> {
     for look in 0..LOOKS {
         let_others_run((pause << look).min(LONGEST_PAUSE));

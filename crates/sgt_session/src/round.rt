@@ -1,16 +1,12 @@
 //! The state under the lock: the engine and the book of calls.
-ghost use Rattle.std.specs.Prelude.{◌≡◌, ◌+◌, ◌<◌, ◌≤◌, ℕ, true, [], ◌∷◌, ◌++◌, length, vec_len, vec_capacity, IfOk, OnOk, OnErr, reverse};
+ghost use Rattle.std.specs.Prelude.{◌≡◌, ◌+◌, ◌<◌, ◌≤◌, ℕ, true, [], length, vec_len, IfOk, OnOk, OnErr, reverse};
 ghost use Rattle.std.specs.List.{sum_by};
 ghost use Rattle.std.specs.Result.{IsOk};
 ghost use Rattle.sgt_model.specs.declared.event.Event.TheVariants.{Quit, Step};
 ghost use Rattle.sgt_model.specs.Fates.{live};
-ghost use Rattle.sgt_model.specs.Legality.{Legal, LegalReply};
-ghost use Rattle.sgt_progress.specs.Progress.{MakesProgress};
-ghost use Rattle.sgt_progress.specs.RealTime.{KeepsRealTime};
-ghost use Rattle.sgt_engine.specs.EngineView.{configuration_of, with_entry};
-ghost use Rattle.sgt_log.specs.StepKinds.{IsOfKind};
-ghost use Rattle.sgt_session.specs.declared.receipt.Receipt.{Receipt};
-ghost use Rattle.sgt_session.specs.Receipts.{entry_of};
+ghost use Rattle.sgt_engine.specs.EngineView.{configuration_of};
+ghost use Rattle.sgt_engine.specs.Guarantees.{Guarantees};
+ghost use Rattle.sgt_session.specs.Receipts.{HasFiled};
 
 use crate::named::Named;
 use crate::receipts::Receipts;
@@ -75,11 +71,7 @@ impl<N: Named, R: Records, A: Accesses, G: Graph> Round<N, R, A, G> {
     ) -> Result<StepKind, NoMemory>
         requires part { 0 < mine.old.parts }
         requires spare { 0 < receipts.old.spare }
-        ensures filed { IfOk result (λ kind. (r : Receipt) × (r.event ≡ event.now) × (r.number ≡ length self.old.past)
-            × (self.new ≡ with_entry r.event r.reply self.old)
-            × LegalReply (configuration_of self.old) self.old.past r.event r.reply
-            × (receipts.new.receipts ≡ receipts.old.receipts ++ r ∷ [])
-            × IsOfKind kind (entry_of r)) }
+        ensures filed { IfOk result (HasFiled event.now self.old self.new receipts.old.receipts receipts.new.receipts) }
         ensures counted { OnOk result (mine.new.amount ≡ mine.old.amount + 1) }
         ensures parts { mine.new.parts ≡ mine.old.parts }
         ensures spare { OnOk result (receipts.new.spare + 1 ≡ receipts.old.spare) }
@@ -101,11 +93,7 @@ impl<N: Named, R: Records, A: Accesses, G: Graph> Round<N, R, A, G> {
     ) -> Result<StepKind, NoMemory>
         requires part { 0 < mine.old.parts }
         requires spare { 0 < receipts.old.spare }
-        ensures filed { IfOk result (λ kind. (r : Receipt) × (r.event ≡ Step t) × (r.number ≡ length self.old.past)
-            × (self.new ≡ with_entry r.event r.reply self.old)
-            × LegalReply (configuration_of self.old) self.old.past r.event r.reply
-            × (receipts.new.receipts ≡ receipts.old.receipts ++ r ∷ [])
-            × IsOfKind kind (entry_of r)) }
+        ensures filed { IfOk result (HasFiled (Step t) self.old self.new receipts.old.receipts receipts.new.receipts) }
         ensures counted { OnOk result (mine.new.amount ≡ mine.old.amount + 1) }
         ensures parts { mine.new.parts ≡ mine.old.parts }
         ensures spare { OnOk result (receipts.new.spare + 1 ≡ receipts.old.spare) }
@@ -140,9 +128,7 @@ impl<N: Named, R: Records, A: Accesses, G: Graph> Round<N, R, A, G> {
     pub fn into_engine(self) -> Box<Engine<R, A, G>>
         ensures same { result.value ≡ self }
         ensures configuration { configuration_of result.value ≡ N.configuration }
-        ensures legal { Legal (configuration_of result.value) result.value.past }
-        ensures real_time { KeepsRealTime (configuration_of result.value) result.value.past }
-        ensures progress { MakesProgress (configuration_of result.value) result.value.past }
+        ensures guarantees { Guarantees result.value }
     {
         let Round { engine, .. } = self;
         let _ = engine.history();

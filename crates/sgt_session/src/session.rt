@@ -6,10 +6,9 @@ ghost use Rattle.sgt_log.specs.StepKinds.{IsOfKind};
 ghost use Rattle.sgt_session.specs.declared.receipt.Receipt.{Receipt};
 ghost use Rattle.sgt_model.specs.Questions.{is_wait, started_in};
 ghost use Rattle.sgt_session.specs.Own.{with_one, open_by};
-ghost use Rattle.sgt_session.specs.Receipts.{entry_of, IsWaitOf};
+ghost use Rattle.sgt_session.specs.Receipts.{entry_of, HasCalled, HasMade, IsWaitOf};
 
 use crate::end_signal::WaitCount;
-use crate::hold::step_in_hold;
 use crate::named::Named;
 use crate::own::{ensure_receipt_capacity, note};
 use crate::receipt::Receipt;
@@ -137,9 +136,7 @@ impl<N: Named> Session<N> {
         shared: &Shared<N, R, A, G>,
         event: &Event,
     ) -> Result<(), NoMemory>
-        ensures { MatchResult result
-            (λ _. (r : Receipt) × (r.event ≡ event.now) × (self.new ≡ self.old ++ r ∷ []))
-            (λ _. self.new ≡ self.old) }
+        ensures { MatchResult result (λ _. HasCalled event.now self.old self.new) (λ _. self.new ≡ self.old) }
     {
         // A start can wait, and a session that is alone delays no other.
         if shared.sessions > 1 && matches!(event, Event::Start { .. }) {
@@ -156,9 +153,7 @@ impl<N: Named> Session<N> {
         shared: &Shared<N, R, A, G>,
         event: &Event,
     ) -> Result<(), NoMemory>
-        ensures { MatchResult result
-            (λ _. (r : Receipt) × (r.event ≡ event.now) × (self.new ≡ self.old ++ r ∷ []))
-            (λ _. self.new ≡ self.old) }
+        ensures { MatchResult result (λ _. HasCalled event.now self.old self.new) (λ _. self.new ≡ self.old) }
     {
         let spare = ensure_receipt_capacity(&mut self.receipts, &mut self.own, event)?;
         let (turn, mut round) = shared.lock_policy.lock(rt, &shared.round, event, spare);
@@ -169,8 +164,7 @@ impl<N: Named> Session<N> {
         Ok(())
     }
 
-    /// Like `make`, for a step, and returns what its entry is to a caller that makes one step after another. The event is made
-    /// where it is passed, so that its kind is known there at compile time.
+    /// Like `make`, for a step, and returns what its entry is to a caller that makes one step after another.
     #[inline(always)]
     pub fn make_step<R: Records, A: Accesses, G: Graph, W: Wait>(
         &mut self,
@@ -178,12 +172,14 @@ impl<N: Named> Session<N> {
         shared: &Shared<N, R, A, G>,
         t: Tid,
     ) -> Result<StepKind, NoMemory>
-        ensures { MatchResult result
-            (λ kind. (r : Receipt) × (r.event ≡ Step t) × (self.new ≡ self.old ++ r ∷ []) × IsOfKind kind (entry_of r))
-            (λ _. self.new ≡ self.old) }
+        ensures { MatchResult result (HasMade (Step t) self.old self.new) (λ _. self.new ≡ self.old) }
     {
         let spare = ensure_receipt_capacity(&mut self.receipts, &mut self.own, &Event::Step(t))?;
-        let kind = step_in_hold(rt, shared, t, &mut self.share, &mut self.receipts, spare)?;
+        let mut round = shared
+            .lock_policy
+            .lock_without_turn(rt, &shared.round, spare);
+        let kind = round.step(t, &mut self.share, &mut self.receipts)?;
+        drop(round);
         note_newest(&mut self.own, &self.receipts, kind, &shared.waiters);
         Ok(kind)
     }

@@ -199,15 +199,16 @@ fn naps() {
     }
 }
 
-/// Makes three steps of a transaction, and returns whether no allocation failed.
+/// Makes this many steps of a transaction, and returns whether no allocation failed.
 fn steps<N: Named, W: Wait>(
     rt: &W,
     shared: &SharedEngine<N>,
     session: &mut Session<N>,
     t: Tid,
+    count: u32,
 ) -> bool {
     let mut is_made = true;
-    for _ in 0..3 {
+    for _ in 0..count {
         is_made = is_made && session.make(rt, shared, &Event::Step(t)).is_ok();
     }
     is_made
@@ -250,35 +251,19 @@ fn lets_others_call<N: Named, W: Wait>(
     true
 }
 
-/// Starts a transaction, then the newest, and makes three steps.
+/// Starts a transaction, then the newest, and makes this many steps.
 fn starts<N: Named, W: Wait>(
     rt: &W,
     shared: &SharedEngine<N>,
     session: &mut Session<N>,
     newest: &mut Tid,
     event: Event,
+    count: u32,
 ) -> bool {
     match started(rt, shared, session, event) {
         Some(t) => {
             *newest = t;
-            steps(rt, shared, session, t)
-        }
-        None => false,
-    }
-}
-
-/// Starts a transaction, then the newest, and makes one step.
-fn starts_short<N: Named, W: Wait>(
-    rt: &W,
-    shared: &SharedEngine<N>,
-    session: &mut Session<N>,
-    newest: &mut Tid,
-    event: Event,
-) -> bool {
-    match started(rt, shared, session, event) {
-        Some(t) => {
-            *newest = t;
-            session.make(rt, shared, &Event::Step(t)).is_ok()
+            steps(rt, shared, session, t, count)
         }
         None => false,
     }
@@ -293,7 +278,9 @@ fn wakes_unless_ended<N: Named, W: Wait>(
     stage: &Stage,
     newest: &mut Tid,
 ) {
-    if !is_raised(&stage.has_ended) && starts(rt, shared, session, newest, start(BALANCE, &[2])) {
+    if !is_raised(&stage.has_ended)
+        && starts(rt, shared, session, newest, start(BALANCE, &[2]), 3)
+    {
         let _ = session.make(rt, shared, &Event::Commit(*newest));
     }
 }
@@ -313,7 +300,7 @@ fn does<N: Named, W: Wait>(
 ) -> bool {
     match deed {
         Deed::Starts(procedure, args) => {
-            starts(rt, shared, session, newest, start(*procedure, args))
+            starts(rt, shared, session, newest, start(*procedure, args), 3)
         }
         Deed::LetsCall(following, others) => {
             lets_others_call(rt, shared, session, before(*newest, *following), *others)
@@ -335,7 +322,7 @@ fn does<N: Named, W: Wait>(
                 .is_ok()
         }
         Deed::StartsShort(procedure, args) => {
-            starts_short(rt, shared, session, newest, start(*procedure, args))
+            starts(rt, shared, session, newest, start(*procedure, args), 1)
         }
         _ => true,
     }

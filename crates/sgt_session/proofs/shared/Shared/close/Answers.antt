@@ -23,15 +23,15 @@ pub returns-clause-configuration : goal.returns-clause-configuration
 returns-clause-configuration g c = c.into_engine.ensures.configuration
 
 pub returns-clause-legal : goal.returns-clause-legal
-returns-clause-legal g c = subst (λ s. Legal s c.into_engine.result.value.past) c.into_engine.ensures.configuration c.into_engine.ensures.legal
+returns-clause-legal g c = subst (λ s. Legal s c.into_engine.result.value.past) c.into_engine.ensures.configuration c.into_engine.ensures.guarantees.legal
 
 pub returns-clause-real_time : goal.returns-clause-real_time
 returns-clause-real_time g c =
-    subst (λ s. KeepsRealTime s c.into_engine.result.value.past) c.into_engine.ensures.configuration c.into_engine.ensures.real_time
+    subst (λ s. KeepsRealTime s c.into_engine.result.value.past) c.into_engine.ensures.configuration c.into_engine.ensures.guarantees.real_time
 
 pub returns-clause-progress : goal.returns-clause-progress
 returns-clause-progress g c =
-    subst (λ s. MakesProgress s c.into_engine.result.value.past) c.into_engine.ensures.configuration c.into_engine.ensures.progress
+    subst (λ s. MakesProgress s c.into_engine.result.value.past) c.into_engine.ensures.configuration c.into_engine.ensures.guarantees.progress
 
 pub returns-clause-accounts : goal.returns-clause-accounts
 returns-clause-accounts g c =
