@@ -5,13 +5,14 @@ use Rattle.sgt_desk.specs.declared.alone.Solo.{Solo}
 use Rattle.sgt_desk.specs.declared.plan.Plan.{Plan}
 use Rattle.sgt_desk.specs.declared.plan.Planned.{Planned}
 use Rattle.sgt_desk.specs.declared.plan.Planned.TheVariants.{Nothing, Cut, Pause}
+use Rattle.sgt_desk.specs.declared.handing_on.Feed.{Feed}
 use Rattle.sgt_desk.specs.Desks.{one_more}
+use Rattle.sgt_desk.specs.Feeds.{position_in}
 use Rattle.sgt_desk.specs.Plans.{is_due, CanRest, IsPutOff, SamePlan}
 use Rattle.sgt_c.specs.declared.call_struct.SgtCall.{SgtCall}
 use Rattle.sgt_c.specs.declared.held.Held.{Held}
 use Rattle.sgt_c.specs.declared.reply_struct.SgtReply.{SgtReply}
 use Rattle.sgt_c.specs.declared.shared.alone.SgtSolo.{SgtSolo}
-use Rattle.sgt_c.specs.declared.shared.handing_on.SgtFeed.{SgtFeed}
 use Rattle.sgt_c.specs.declared.shared.planning.SgtPlan.{SgtPlan}
 use Rattle.sgt_c.specs.declared.shared.waiting.SgtNote.{SgtNote}
 use Rattle.sgt_c.specs.ReplayedCalls.{ArePassed}
@@ -63,12 +64,8 @@ conflict_in s = (nat_eq s.kind 14 && nat_eq s.cause 1) || (nat_eq s.kind 7 && na
 
 -- ---- calls that are handed on
 
--- the position from which the next call is looked for: 0 in a part that has begun since
-abbrev pub position_in : SgtFeed → ℕ → ℕ
-position_in feed part = cond (nat_eq feed.part part) feed.read 0
-
 -- the call is the only one from the position of the feed to its next one, and its number is how many were handed on before
-pub record HandsOn (h : Held) (feed : SgtFeed) (call : List SgtCall) (number : ℕ) (next : SgtFeed) : Type 0 where
+pub record HandsOn (h : Held) (feed : Feed) (call : List SgtCall) (number : ℕ) (next : Feed) : Type 0 where
   pub passed : ArePassed (reverse h.engine.past) (position_in feed h.part) call 1 next.read
   pub part : next.part ≡ h.part
   pub numbered : number ≡ feed.count

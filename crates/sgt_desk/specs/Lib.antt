@@ -5,3 +5,4 @@ pub mod Runs
 pub mod Attempts
 pub mod Turns
 pub mod Plans
+pub mod Feeds

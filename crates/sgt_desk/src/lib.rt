@@ -19,7 +19,8 @@
 //! [`commit`], [`start`] and [`cut`] make the turns of these calls, [`run_procedure`] those of a procedure that is tried again after a
 //! conflict, and [`make`] an event that never rests.
 //!
-//! Beside the turns, [`Plan`] says when a cut of the configuration is due, and [`Solo`] and [`is_next_alone`] which tries are made alone.
+//! Beside the turns, [`Plan`] says when a cut of the configuration is due, [`Solo`] and [`is_next_alone`] which tries are made alone, and
+//! [`Feed`] which calls were handed on.
 //!
 //! The desk knows its engine by the contracts of [`Answering`] alone. It keeps no list of the live transactions: the engine has it.
 //! It knows no threads, and does not promise that a thread is ever woken, which one comes next, or how long anything takes. It does not
@@ -50,6 +51,7 @@ mod ask;
 mod committing;
 mod cutting;
 mod desk;
+mod handing_on;
 mod laws;
 mod making;
 mod plan;
@@ -63,6 +65,7 @@ pub use ask::{Ask, Deadline, Ticket, Turn};
 pub use committing::{commit, commit_turn};
 pub use cutting::{cut, cut_turn};
 pub use desk::Desk;
+pub use handing_on::Feed;
 pub use laws::no_wake_is_lost;
 pub use making::{Asked, make};
 pub use plan::{Plan, Planned};

@@ -1,28 +1,17 @@
 //! The calls that an engine's threads hand on, for C: each once, in the order of their replies, with its number.
-ghost use Rattle.std.specs.Prelude.{◌≡◌, ◌≢◌, ◌≤◌, ◌<◌, ◌⊎◌, IfSome, length, reverse};
-ghost use Rattle.sgt_desk.specs.Desks.{one_more};
-ghost use Rattle.sgt_c.specs.Decisions.{HandsOn, position_in};
+ghost use Rattle.std.specs.Prelude.{◌≡◌, ◌≢◌, ◌<◌, ◌⊎◌, IfSome, length, reverse};
+ghost use Rattle.sgt_desk.specs.Feeds.{position_in};
+ghost use Rattle.sgt_c.specs.Decisions.{HandsOn};
 ghost use Rattle.sgt_c.specs.ReplayedCalls.{ArePassed};
 ghost use Rattle.sgt_c.specs.Handles.{Visits};
 
 use crate::call_struct::SgtCall;
 use crate::handle::{Handle, take_held};
 use crate::held::Held;
-use crate::replayed_calls::{Passed, pass};
+use crate::replayed_calls::pass;
 use crate::status;
+use sgt_desk::Feed;
 use std::alloc::Global;
-
-/// Up to where the calls of an engine were handed on. All bytes are zero at first.
-#[repr(C)]
-#[derive(Drop)]
-pub struct SgtFeed {
-    /// The part of the history in which the newest of them is.
-    pub part: u64,
-    /// The position in it up to which the entries were read.
-    pub read: u64,
-    /// How many calls were handed on, over all parts.
-    pub count: u64,
-}
 
 /// Hands on the next call that was committed or refused, as `sgt_calls` returns it, with its number: how many were handed on before.
 ///
@@ -32,7 +21,7 @@ pub struct SgtFeed {
 pub extern "C" fn sgt_desk_hand_on(
     alloc: Global,
     engine: &mut Handle,
-    feed: &mut SgtFeed,
+    feed: &mut Feed,
     call: &mut [SgtCall; 1],
     number: &mut u64,
 ) -> u32
@@ -51,47 +40,22 @@ pub extern "C" fn sgt_desk_hand_on(
 }
 
 /// The same for the content of a handle.
-fn hand_on(held: &Held, feed: &mut SgtFeed, call: &mut [SgtCall; 1], number: &mut u64) -> u32
+fn hand_on(held: &Held, feed: &mut Feed, call: &mut [SgtCall; 1], number: &mut u64) -> u32
     ensures hands_on { result ≡ 0 → HandsOn held.now feed.old call.new number.new feed.new }
     ensures none { result ≡ 4 → (length held.now.engine.past < position_in feed.old held.now.part)
         ⊎ ArePassed (reverse held.now.engine.past) (position_in feed.old held.now.part) call.new 0 feed.new.read }
     ensures count { result ≢ 0 → (feed.new.count ≡ feed.old.count) × (number.new ≡ number.old) }
     ensures statuses { (result ≡ 0) ⊎ (result ≡ 4) }
 {
-    let passed = pass(
-        held.engine.history(),
-        position(feed, held.part),
-        &mut call[..],
-    );
-    match passed {
-        Some(passed) => note_passed(feed, held.part, passed, number),
+    let from = feed.position(held.part);
+    let Some(passed) = pass(held.engine.history(), from, &mut call[..]) else {
+        return status::NONE;
+    };
+    match feed.pass(held.part, passed.next as u64, passed.count > 0) {
+        Some(given) => {
+            *number = given;
+            status::OK
+        }
         None => status::NONE,
     }
-}
-
-/// Notes the call that was found, if one was, and up to where the part was read.
-fn note_passed(feed: &mut SgtFeed, part: u64, passed: Passed, number: &mut u64) -> u32
-    requires { passed.count ≤ 1 }
-    ensures statuses { (result ≡ 0) ⊎ (result ≡ 4) }
-    ensures found { result ≡ 0 → passed.count ≡ 1 }
-    ensures numbered { result ≡ 0 → (number.new ≡ feed.old.count) × (feed.new.count ≡ one_more feed.old.count) }
-    ensures none { result ≡ 4 → passed.count ≡ 0 }
-    ensures kept { result ≢ 0 → (feed.new.count ≡ feed.old.count) × (number.new ≡ number.old) }
-    ensures read { (feed.new.part ≡ part) × (feed.new.read ≡ passed.next) }
-{
-    feed.part = part;
-    feed.read = passed.next as u64;
-    if passed.count == 0 {
-        return status::NONE;
-    }
-    *number = feed.count;
-    feed.count = feed.count.saturating_add(1);
-    status::OK
-}
-
-/// The position from which the next call is looked for: that of the feed, or the first of a part that has begun since.
-fn position(feed: &SgtFeed, part: u64) -> u64
-    ensures { result ≡ position_in feed.now part }
-{
-    if feed.part == part { feed.read } else { 0 }
 }
