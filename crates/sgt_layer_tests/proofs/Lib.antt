@@ -1,0 +1,2 @@
+mod FewNumbers
+mod Readers
