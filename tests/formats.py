@@ -343,6 +343,10 @@ NO_RECORDS = """
 ["record","3",1,1]
 ["records",3,1,1]
 ["Record",3,1,1]
+["record",3,1,1e0]
+["record",3,1,1
+["record",3,1,1]]
+[["record",3,1,1]]
 {"record":[3,1,1]}
 """
 

@@ -5,15 +5,11 @@
 #![tactic(auto)]
 
 #[cfg(test)]
-mod client_histories;
-#[cfg(test)]
 mod engine;
 #[cfg(test)]
 mod failures;
 #[cfg(test)]
 mod first_use;
-#[cfg(test)]
-mod record_lines;
 #[cfg(test)]
 mod schedulers;
 #[cfg(test)]
