@@ -50,7 +50,7 @@ impl<I: Read + Drop, F: Read + OpenFile + Drop> InputBytes<I, F> {
 }
 
 /// Why a file is not read.
-#[derive(Clone, Copy, Debug, PartialEq, Eq)]
+#[derive(Clone, Copy)]
 pub(crate) enum FileFlaw {
     /// There is no file with this name.
     Missing,
@@ -63,7 +63,7 @@ pub(crate) enum FileFlaw {
 }
 
 /// A file that is not read.
-#[derive(Debug, Drop)]
+#[derive(Drop)]
 pub(crate) struct FileFault<'a> {
     name: &'a str,
     flaw: FileFlaw,

@@ -23,7 +23,7 @@ const ITEM: &str = "an item is 1 to 64 letters, digits and _ . / : -";
 const NO_VALUE: &str = "a history has no values: an item is 1 to 64 letters, digits and _ . / : -";
 
 /// What is wrong with a word.
-#[derive(Clone, Copy, Debug, PartialEq, Eq)]
+#[derive(Clone, Copy)]
 pub(crate) enum WordError {
     /// These words say it, of the bytes of the word from this index on.
     Words(usize, &'static str),

@@ -4,7 +4,7 @@ use sgt_check::Counts;
 use std::fmt::{self, Display, Formatter};
 
 /// The transactions of a history that are active at its end.
-#[derive(Clone, Copy, Debug, PartialEq, Eq)]
+#[derive(Clone, Copy)]
 pub(crate) struct Unjudged {
     active: usize,
     /// Whether no transaction committed.

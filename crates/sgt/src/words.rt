@@ -24,7 +24,7 @@ const MOST_BYTES: usize = 65_536;
 const LONGEST: usize = 200;
 
 /// Why a file of words is not read. Lines are counted from 1.
-#[derive(Clone, Copy, Debug, PartialEq, Eq)]
+#[derive(Clone, Copy)]
 pub(crate) enum WordsFlaw {
     /// The file cannot be opened.
     File(FileFlaw),
@@ -59,7 +59,7 @@ impl<T: Drop> From<AllocFailed<T>> for WordsFlaw {
 }
 
 /// A file of words that is not read.
-#[derive(Debug, Drop)]
+#[derive(Drop)]
 pub(crate) struct WordsFault<'a> {
     name: &'a str,
     flaw: WordsFlaw,

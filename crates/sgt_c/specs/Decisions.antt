@@ -6,8 +6,7 @@ use Rattle.sgt_desk.specs.declared.plan.Plan.{Plan}
 use Rattle.sgt_desk.specs.declared.plan.Planned.{Planned}
 use Rattle.sgt_desk.specs.declared.plan.Planned.TheVariants.{Nothing, Cut, Pause}
 use Rattle.sgt_desk.specs.declared.handing_on.Feed.{Feed}
-use Rattle.sgt_desk.specs.Desks.{one_more}
-use Rattle.sgt_desk.specs.Feeds.{position_in}
+use Rattle.sgt_desk.specs.Desks.{one_more, position_in}
 use Rattle.sgt_desk.specs.Plans.{is_due, CanRest, IsPutOff, SamePlan}
 use Rattle.sgt_c.specs.declared.call_struct.SgtCall.{SgtCall}
 use Rattle.sgt_c.specs.declared.held.Held.{Held}

@@ -5,7 +5,7 @@ ghost use Rattle.sgt_clients.specs.Entries.{access_of};
 use sgt_appends::Operation;
 
 /// What an operation does to a key, without what it sees.
-#[derive(Clone, Copy, Debug, PartialEq, Eq)]
+#[derive(Clone, Copy)]
 pub(crate) enum Access {
     /// It appends the value to the key.
     Appends { key: u32, value: u64 },

@@ -8,7 +8,7 @@ use sgt_model::NoMemory;
 use std::alloc::Global;
 
 /// An example of an anomaly.
-#[derive(Clone, Copy, Debug, PartialEq, Eq)]
+#[derive(Clone, Copy)]
 pub enum Example {
     /// The read at this position of the reader has the fault.
     Read {
@@ -26,7 +26,7 @@ pub enum Example {
 }
 
 /// An anomaly that was seen.
-#[derive(Clone, Copy, Debug, PartialEq, Eq)]
+#[derive(Clone, Copy)]
 pub struct Seen {
     pub name: &'static str,
     /// How often it was seen.

@@ -3,7 +3,7 @@ use sgt_model::NoMemory;
 use std::alloc::Global;
 
 /// A position in an input.
-#[derive(Clone, Copy, Debug, PartialEq, Eq)]
+#[derive(Clone, Copy)]
 pub(crate) struct Spot {
     /// The index of its byte.
     pub at: usize,
@@ -14,14 +14,14 @@ pub(crate) struct Spot {
 }
 
 /// A bracket, or the quote of a text.
-#[derive(Clone, Copy, Debug, PartialEq, Eq)]
+#[derive(Clone, Copy)]
 pub(crate) struct Bracket {
     pub byte: u8,
     pub spot: Spot,
 }
 
 /// What is wrong with the brackets.
-#[derive(Clone, Copy, Debug, PartialEq, Eq)]
+#[derive(Clone, Copy)]
 pub(crate) enum Break {
     /// A bracket closes another one than the newest that is open, or nothing is open.
     Mismatch(Bracket, Option<Bracket>),
@@ -34,7 +34,7 @@ pub(crate) enum Break {
 }
 
 /// The first break of an input, and the number of its entry from 1.
-#[derive(Clone, Copy, Debug, PartialEq, Eq)]
+#[derive(Clone, Copy)]
 pub(crate) struct FoundBreak {
     pub found: Break,
     pub entry: usize,
@@ -64,7 +64,7 @@ pub(crate) fn first_break(
 }
 
 /// What a scan is in.
-#[derive(Clone, Copy, Debug, PartialEq, Eq)]
+#[derive(Clone, Copy)]
 enum Part {
     /// No text, comment or character.
     Plain,

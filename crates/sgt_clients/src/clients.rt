@@ -25,7 +25,7 @@ use std::alloc::Global;
 use std::collections::BTreeMap;
 
 /// When a transaction ran, by the numbers of entries from 1.
-#[derive(Clone, Copy, Debug, PartialEq, Eq)]
+#[derive(Clone, Copy)]
 pub struct Span {
     /// The entry at which it began.
     pub began: usize,
@@ -34,7 +34,7 @@ pub struct Span {
 }
 
 /// What an entry says of a transaction.
-#[derive(Clone, Copy, Debug, PartialEq, Eq)]
+#[derive(Clone, Copy)]
 pub enum Event {
     /// It began.
     Began(usize),
@@ -43,7 +43,7 @@ pub enum Event {
 }
 
 /// A transaction that began at its end, since its process had no open invocation.
-#[derive(Clone, Copy, Debug, PartialEq, Eq)]
+#[derive(Clone, Copy)]
 pub struct Alone {
     /// The transaction.
     pub transaction: usize,

@@ -7,7 +7,7 @@ ghost use Rattle.sgt_clients.specs.ReportText.{has_status};
 use sgt_appends::{Status, Transaction};
 
 /// How many transactions there are, and how they ended.
-#[derive(Clone, Copy, Debug, PartialEq, Eq)]
+#[derive(Clone, Copy)]
 pub(crate) struct Counts {
     pub transactions: usize,
     pub committed: usize,

@@ -16,7 +16,7 @@ use sgt_notation::Items;
 use std::alloc::Global;
 
 /// What an entry says of a transaction.
-#[derive(Clone, Copy, Debug, PartialEq, Eq)]
+#[derive(Clone, Copy)]
 pub(crate) enum Kind {
     /// It began.
     Invoked,

@@ -23,7 +23,7 @@ pub(crate) struct Seen<'a> {
 }
 
 /// Up to two values that a text speaks of.
-#[derive(Clone, Copy, Debug, PartialEq, Eq)]
+#[derive(Clone, Copy)]
 pub(crate) struct Spoken {
     pub one: Option<u64>,
     pub other: Option<u64>,

@@ -10,7 +10,7 @@ use sgt_notation::Shown;
 use thiserror::Error;
 
 /// What is wrong with an entry. Operations are counted from 1.
-#[derive(Debug, Drop, PartialEq, Eq, Error)]
+#[derive(Debug, Drop, Error)]
 pub enum Flaw {
     /// The text is not JSON from this column on.
     #[error("no JSON from column {0} on")]
@@ -45,7 +45,7 @@ pub enum Flaw {
 }
 
 /// The position of an entry in the input, from 1.
-#[derive(Clone, Copy, Debug, PartialEq, Eq, Error)]
+#[derive(Clone, Copy, Debug, Error)]
 pub enum Position {
     /// By lines, if each entry stands on a line of its own.
     #[error("line {0}")]
@@ -56,7 +56,7 @@ pub enum Position {
 }
 
 /// Why an entry was not read.
-#[derive(Debug, Drop, PartialEq, Eq)]
+#[derive(Drop)]
 pub(crate) enum ReadError {
     /// The entry is wrong.
     Flaw(Flaw),
@@ -79,7 +79,7 @@ impl From<sgt_model::NoMemory> for ReadError {
 }
 
 /// Why a check of what clients saw ended without a report. Lines and entries are counted from 1.
-#[derive(Debug, Drop, PartialEq, Eq, Error)]
+#[derive(Debug, Drop, Error)]
 pub enum ClientsFault {
     /// The entry, which starts on the line, is wrong. If it is not JSON, that is the line from which on it is not.
     #[error("line {0}, entry {1}: {2}")]

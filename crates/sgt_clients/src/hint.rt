@@ -3,7 +3,7 @@ use sgt_notation::Shown;
 use thiserror::Error;
 
 /// What a second line says about a wrong entry. Lines, entries and columns are counted from 1.
-#[derive(Debug, Drop, PartialEq, Eq, Error)]
+#[derive(Debug, Drop, Error)]
 pub enum Hint {
     /// The first entry is not JSON from its first byte on, and may be text.
     #[error("text like r1[x] is read without --model list-append")]

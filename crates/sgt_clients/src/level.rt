@@ -4,7 +4,7 @@ ghost use Rattle.std.specs.Prelude.{◌≡◌};
 ghost use Rattle.sgt_clients.specs.Levels.{is_strict, keeps_time, is_yes};
 
 /// A level of isolation. Each is stronger than those above it.
-#[derive(Clone, Copy, Debug, PartialEq, Eq)]
+#[derive(Clone, Copy)]
 pub enum Level {
     /// Committed transactions write in one order at all keys: PL-1.
     ReadUncommitted,
@@ -19,7 +19,7 @@ pub enum Level {
 }
 
 /// Whether what clients saw is of a level.
-#[derive(Clone, Copy, Debug, PartialEq, Eq)]
+#[derive(Clone, Copy)]
 pub enum Answer {
     Yes,
     No,
@@ -28,7 +28,7 @@ pub enum Answer {
 }
 
 /// What a check is asked.
-#[derive(Clone, Copy, Debug, PartialEq, Eq)]
+#[derive(Clone, Copy)]
 pub struct Question {
     /// The level whose answer is the verdict.
     pub level: Level,

@@ -8,7 +8,7 @@ use sgt_format::items;
 use std::fmt::{self, Display, Formatter};
 
 /// What a check takes for something else. No contract speaks of it.
-#[derive(Clone, Copy, Debug, PartialEq, Eq)]
+#[derive(Clone, Copy)]
 pub struct Notes {
     /// How many reads of transactions that committed are null: taken for reads of the empty list.
     pub nulls: usize,

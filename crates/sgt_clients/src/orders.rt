@@ -39,7 +39,7 @@ pub struct KeptOrders {
 }
 
 /// Which order a run keeps.
-#[derive(Clone, Copy, PartialEq, Eq)]
+#[derive(Clone, Copy)]
 enum Kind {
     RealTime,
     Process,

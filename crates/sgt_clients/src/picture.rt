@@ -27,7 +27,7 @@ const LEGEND: &[u8] =
     b"w[x: +1] appends 1 to x. The order from left to right is logical, not time.\n";
 
 /// What is drawn of a history.
-#[derive(Clone, Copy, PartialEq, Eq)]
+#[derive(Clone, Copy)]
 enum Subject {
     /// An order of its transactions.
     Order,

@@ -26,7 +26,7 @@ use sgt_model::NoMemory;
 use std::alloc::Global;
 
 /// What a check writes.
-#[derive(Clone, Copy, Debug, PartialEq, Eq)]
+#[derive(Clone, Copy)]
 pub enum ClientsOutput {
     /// The report.
     Report,

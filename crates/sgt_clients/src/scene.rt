@@ -8,7 +8,7 @@ use std::alloc::Global;
 use std::collections::BTreeMap;
 
 /// An operation that is drawn: its transaction, and its position there. The end of a transaction comes after all positions.
-#[derive(Clone, Copy, Debug, PartialEq, Eq)]
+#[derive(Clone, Copy, PartialEq)]
 pub(crate) struct Stroke {
     pub transaction: usize,
     pub position: usize,
@@ -35,7 +35,7 @@ impl Stroke {
 }
 
 /// Two operations that stand out, the earlier one first.
-#[derive(Clone, Copy, Debug, PartialEq, Eq)]
+#[derive(Clone, Copy)]
 pub(crate) struct Pair {
     pub earlier: Stroke,
     pub later: Stroke,

@@ -8,6 +8,7 @@ use Rattle.sgt_model.specs.Fates.{live, live_ones}
 use Rattle.sgt_model.specs.Configurations.{Configuration}
 use Rattle.sgt_desk.specs.Engines.{Answered, EngineState, configuration_after}
 use Rattle.sgt_desk.specs.declared.desk.Desk.{Desk}
+use Rattle.sgt_desk.specs.declared.handing_on.Feed.{Feed}
 use Rattle.sgt_desk.specs.declared.reason.Reason.{Reason}
 use Rattle.sgt_desk.specs.declared.reason.Reason.TheVariants.{Turn, Full, End, Busy, Cut}
 
@@ -131,3 +132,9 @@ holds Cut d = nat_lt 0 d.cutters
 -- if a reason to rest has ceased, whichever it is, all that rest are to be woken
 abbrev pub Wakes : DeskState → DeskState → Bool → Type 0
 Wakes before after wakes = (r : Reason) → holds r before ≡ true → holds r after ≡ false → wakes ≡ true
+
+-- ---- calls that are handed on
+
+-- the position from which the next call is looked for: 0 in a part that has begun since
+abbrev pub position_in : Feed → ℕ → ℕ
+position_in feed part = cond (nat_eq feed.part part) feed.read 0

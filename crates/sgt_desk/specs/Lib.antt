@@ -5,4 +5,3 @@ pub mod Runs
 pub mod Attempts
 pub mod Turns
 pub mod Plans
-pub mod Feeds

@@ -11,7 +11,7 @@ pub fn is_next_alone(tries: u64, beside: u64, has_own: bool) -> bool
 }
 
 /// The tries that are made alone.
-#[derive(Clone, Copy, Debug, PartialEq, Eq)]
+#[derive(Clone, Copy)]
 pub struct Solo {
     /// The calls that wait to start one.
     pub waiting: u64,

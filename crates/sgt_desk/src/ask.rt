@@ -7,7 +7,7 @@ use crate::reason::Reason;
 use sgt_model::{ShortReply, Tid};
 
 /// Until when a call may rest, in nanoseconds of the caller's clock.
-#[derive(Clone, Copy, Debug, PartialEq, Eq)]
+#[derive(Clone, Copy)]
 pub enum Deadline {
     Never,
     /// It never rests.
@@ -29,7 +29,7 @@ impl Deadline {
 }
 
 /// What the thread of a call does after a turn.
-#[derive(Clone, Copy, Debug, PartialEq, Eq)]
+#[derive(Clone, Copy)]
 pub enum Turn {
     /// It returns the reply.
     Done,
@@ -44,7 +44,7 @@ pub enum Turn {
 }
 
 /// The name of a transaction, which stays good beyond a cut: numbers begin anew in each part of the history.
-#[derive(Clone, Copy, Debug, PartialEq, Eq)]
+#[derive(Clone, Copy)]
 pub struct Ticket {
     /// The part of the history in which the transaction was started.
     pub part: u64,
@@ -53,7 +53,7 @@ pub struct Ticket {
 }
 
 /// A call under way.
-#[derive(Clone, Copy, Debug, PartialEq, Eq)]
+#[derive(Clone, Copy)]
 pub struct Ask {
     /// Until when it may rest.
     pub deadline: Deadline,

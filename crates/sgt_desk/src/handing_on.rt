@@ -1,7 +1,6 @@
 //! Which of the calls that ended were handed on: each once, in the order of their replies, with its number.
 ghost use Rattle.std.specs.Prelude.{◌≡◌, Some, None, cond};
-ghost use Rattle.sgt_desk.specs.Desks.{one_more};
-ghost use Rattle.sgt_desk.specs.Feeds.{position_in};
+ghost use Rattle.sgt_desk.specs.Desks.{one_more, position_in};
 
 /// Up to where calls were handed on. All is zero at first. Its layout is C's, whose threads keep one beside their engine.
 #[repr(C)]

@@ -9,7 +9,7 @@ use crate::desk::Desk;
 use sgt_model::{Event, NoMemory, Request, ShortReply, Tid};
 
 /// What is asked of a transaction.
-#[derive(Clone, Copy, Debug, PartialEq, Eq)]
+#[derive(Clone, Copy)]
 pub enum Asked {
     /// The next access of its procedure.
     Step,

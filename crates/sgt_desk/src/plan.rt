@@ -3,7 +3,7 @@ ghost use Rattle.std.specs.Prelude.{◌≡◌, ◌≢◌, ◌↔◌, ◌≤◌, 
 ghost use Rattle.sgt_desk.specs.Plans.{is_due, sum, CanRest, IsPutOff, SamePlan};
 
 /// When the history is cut by itself.
-#[derive(Clone, Copy, Debug, PartialEq, Eq)]
+#[derive(Clone, Copy)]
 pub struct Plan {
     /// After how many entries, counted from the last cut or from when one was put off. 0: never.
     pub after: u64,
@@ -16,7 +16,7 @@ pub struct Plan {
 }
 
 /// What a plan asks for next.
-#[derive(Clone, Copy, Debug, PartialEq, Eq)]
+#[derive(Clone, Copy)]
 pub enum Planned {
     /// Nothing.
     Nothing,

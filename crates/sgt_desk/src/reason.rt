@@ -2,7 +2,7 @@
 use sgt_model::Tid;
 
 /// Why a call rests. It holds as long as the call could do nothing else than rest again.
-#[derive(Clone, Copy, Debug, PartialEq, Eq)]
+#[derive(Clone, Copy)]
 pub enum Reason {
     /// The commit of the first transaction waits for the second, and both are live.
     Turn(Tid, Tid),

@@ -17,7 +17,7 @@ use sgt_model::{
 };
 
 /// A run under way.
-#[derive(Clone, Copy, Debug, PartialEq, Eq)]
+#[derive(Clone, Copy)]
 pub struct Run {
     /// Its deadline, why it rests, and its newest reply.
     pub ask: Ask,

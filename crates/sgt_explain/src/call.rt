@@ -10,7 +10,7 @@ use sgt_log::EntryRef;
 use sgt_model::{Args, Event, Tid};
 
 /// The call that started a transaction.
-#[derive(Debug, Drop)]
+#[derive(Drop)]
 pub struct Call {
     /// The number of its procedure.
     pub procedure: u16,

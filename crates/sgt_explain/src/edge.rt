@@ -14,7 +14,7 @@ use sgt_model::{Cause, Key, Kind, Reply, Tid, Tids};
 
 /// A transaction's first accesses of a key that conflict with a later one, by their positions. At least one of them
 /// exists.
-#[derive(Clone, Copy, Debug, PartialEq, Eq)]
+#[derive(Clone, Copy)]
 pub struct Earlier {
     /// Its first read of the key. None if the later access is a read: reads do not conflict.
     pub looked: Option<usize>,
@@ -23,7 +23,7 @@ pub struct Earlier {
 }
 
 /// An edge of a cycle, with the accesses of its two transactions that conflict.
-#[derive(Clone, Copy, Debug, PartialEq, Eq)]
+#[derive(Clone, Copy)]
 pub struct CycleEdge {
     /// The transaction that comes first.
     pub from: Tid,

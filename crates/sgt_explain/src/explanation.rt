@@ -12,7 +12,7 @@ use std::alloc::AllocError;
 const MOST: usize = 32;
 
 /// The access that a transaction was about to make.
-#[derive(Clone, Copy, Debug, PartialEq, Eq)]
+#[derive(Clone, Copy)]
 pub struct Pending {
     /// The key.
     pub key: Key,

@@ -8,7 +8,7 @@ use sgt_model::{Args, Event, LEAST, MOST, NoMemory, Reply, Request, Tid, is_valu
 use std::alloc::AllocError;
 
 /// Why an event is refused: nothing was done, and no transaction has started or ended.
-#[derive(Clone, Copy, Debug, PartialEq, Eq)]
+#[derive(Clone, Copy)]
 pub enum Refusal {
     /// There is no procedure with this number.
     NoProcedure(u16),

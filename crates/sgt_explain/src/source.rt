@@ -15,7 +15,7 @@ use crate::writers::{is_among, newest_writer};
 use sgt_model::{Key, Kind, Tid};
 
 /// A read of another transaction's value.
-#[derive(Clone, Copy, Debug, PartialEq, Eq)]
+#[derive(Clone, Copy)]
 pub struct SourceRead {
     /// The transaction that read.
     pub reader: Tid,

@@ -1,6 +1,6 @@
 //! The calls that an engine's threads hand on, for C: each once, in the order of their replies, with its number.
 ghost use Rattle.std.specs.Prelude.{◌≡◌, ◌≢◌, ◌<◌, ◌⊎◌, IfSome, length, reverse};
-ghost use Rattle.sgt_desk.specs.Feeds.{position_in};
+ghost use Rattle.sgt_desk.specs.Desks.{position_in};
 ghost use Rattle.sgt_c.specs.Decisions.{HandsOn};
 ghost use Rattle.sgt_c.specs.ReplayedCalls.{ArePassed};
 ghost use Rattle.sgt_c.specs.Handles.{Visits};
