@@ -344,8 +344,6 @@ NO_RECORDS = """
 ["records",3,1,1]
 ["Record",3,1,1]
 ["record",3,1,1e0]
-["record",3,1,1
-["record",3,1,1]]
 [["record",3,1,1]]
 {"record":[3,1,1]}
 """
