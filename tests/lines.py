@@ -16,6 +16,7 @@ import random
 import re
 import subprocess
 import sys
+import tempfile
 from collections import Counter
 
 sys.dont_write_bytecode = True
@@ -100,7 +101,7 @@ READER = json.JSONDecoder(object_pairs_hook=Pairs, parse_float=finite, parse_int
 def tree_of(line):
     """The tree of a line, or an error where it is no JSON."""
     text = line.decode("utf-8").strip(" \t\r\n")
-    if depth(line) > DEEPEST:
+    if line.count(b"[") + line.count(b"{") > DEEPEST and depth(line) > DEEPEST:
         raise Refused(line)
     tree, end = READER.raw_decode(text)
     if end < len(text) or b"\\u" in line and has_half(tree):
@@ -543,8 +544,10 @@ class Draws:
 
 def run(program, scripts):
     """What each of these scripts writes, with a line after it that says how it ended."""
-    given = b"".join(len(script).to_bytes(4, "big") + script for script in scripts)
-    ran = subprocess.run([program, "scripts"], input=given, capture_output=True, timeout=600, check=False)
+    with tempfile.TemporaryFile() as given:  # to a pipe Python writes 4096 bytes at a time
+        given.writelines(len(script).to_bytes(4, "big") + script for script in scripts)
+        given.seek(0)
+        ran = subprocess.run([program, "scripts"], stdin=given, capture_output=True, timeout=600, check=False)
     same("status and standard error", (0, b""), (ran.returncode, ran.stderr))
     reported = re.findall(r"(.*?= .*?\n)", ran.stdout.decode(), re.S)
     same("how many were told", len(scripts), len(reported))

@@ -34,7 +34,7 @@ from helpers.library import (  # noqa: E402
 )
 from helpers.package import LONG, Interrupted, elsewhere, interrupted, interrupts, module, refusal, what  # noqa: E402
 
-THREADS, CALLS, SANITIZED_CALLS = 16, 20_000, 2_000
+THREADS, CALLS, SANITIZED_CALLS = 16, 10_000, 1_000
 TABLE, RECORDS = 2, (101, 102, 103)
 STORE = TESTS.parent / "examples" / "store"
 DOCTORS = "Bo, off call after Ada: nobody else is on call\nsomebody is on call in each of 5 wards, and the index has all rows\n"

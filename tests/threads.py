@@ -37,7 +37,7 @@ THREADS, CALLS, FEW_CALLS, SANITIZED_CALLS = 16, 200_000, 40_000, 10_000
 STEPPED, FEW_STEPPED = 49, 1  # of 100 transactions
 MONEY = 5 * 200_000
 TURNS, IN_TURN = 20_000, 4  # runs that each of so many threads makes
-FUZZED_SECONDS = 60
+FUZZED_SECONDS = 30
 LIMITS = '{"limits":[8,4000000000,1],"accounts":[%s],"procedures":[]}\n'
 ACCOUNTS = ",".join(f"[{n},{100 + n},100000,100000]" for n in range(5))
 
