@@ -101,6 +101,7 @@ READER = json.JSONDecoder(object_pairs_hook=Pairs, parse_float=finite, parse_int
 def tree_of(line):
     """The tree of a line, or an error where it is no JSON."""
     text = line.decode("utf-8").strip(" \t\r\n")
+    # Few lines have so many brackets that they may be too deep.
     if line.count(b"[") + line.count(b"{") > DEEPEST and depth(line) > DEEPEST:
         raise Refused(line)
     tree, end = READER.raw_decode(text)

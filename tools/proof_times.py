@@ -4,8 +4,8 @@
     tools/proof_times.py CRATE [COUNT]
 
 It proves the crate from nothing, by one process, as `rt check --jobs 1` does, and prints the COUNT (20) dearest functions: the seconds
-of each, and of these the seconds of its steps, of the proof that they keep its contract, and of the rest. Steps grow faster than a
-function does: two halves of a long one take less. What the crate has beside its functions is in a line of its own.
+of each, and of these the seconds of its steps, of the proof that they keep its contract, and of the rest. The first line has the
+seconds of all, and of what is no function's. What earlier checks of the crate have kept is dropped; the crates below are built first.
 
 The prover keeps a module for each part of a function's proof. How long one took is the time since the one before it was kept, so what
 else runs on the machine adds to it, and a module has in it the loading of the libraries that it is the first to use.
@@ -16,7 +16,6 @@ import shutil
 import subprocess
 import sys
 from collections import Counter
-from itertools import pairwise
 from pathlib import Path
 
 CRATES = Path(__file__).resolve().parent.parent / "crates"
@@ -25,7 +24,7 @@ OTHERS = {"Carried", "Code", "Given", "Kinds", "Layout", "Met", "Named", "Reads"
 
 
 def kept_modules(folder):
-    """The modules that the prover keeps there, in the order in which it kept them, each with its time in seconds."""
+    """The modules that the prover keeps there, in the order in which it kept them, each after the time, in seconds, at which it did."""
     return sorted((it.stat().st_mtime, it.name) for it in folder.rglob("*.oantt"))
 
 
@@ -48,13 +47,13 @@ def main(words):
     kept = folder / "out" / "incremental"
     shutil.rmtree(kept, ignore_errors=True)
     status = subprocess.run(["rt", "check", "--jobs", "1"], cwd=folder, check=False).returncode
-    seconds = Counter()
-    for (before, _), (now, module) in pairwise(kept_modules(kept)):
+    seconds, modules = Counter(), kept_modules(kept)
+    for (before, _), (now, module) in zip(modules, modules[1:]):
         seconds[function_and_part(given.crate, module)] += now - before
     whole = Counter()
     for (function, _), took in seconds.items():
         whole[function] += took
-    print(f"{whole.total():.0f} s, of which {whole.pop('', 0):.0f} are of no function\n\nseconds  steps  proof  rest  function")
+    print(f"{sum(whole.values()):.0f} s, of which {whole.pop('', 0):.0f} are of no function\n\nseconds  steps  proof   rest  function")
     for function, took in whole.most_common(given.count):
         parts = "  ".join(f"{seconds[function, part]:5.1f}" for part in ("steps", "proof", "rest"))
         print(f"{took:7.1f}  {parts}  {function}")
