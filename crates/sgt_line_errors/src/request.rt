@@ -19,9 +19,6 @@ const JOB: &str = "[\"job\",procedure,[argument,..]]";
 /// The form of a record.
 const RECORD: &str = "[\"record\",table,number,value]";
 
-/// The form of a write.
-const WRITE: &str = "[\"write\",transaction,table,number,value]";
-
 /// The words with which a line of a script starts.
 const LINES: &str =
     "a line starts with start, step, commit, quit (abort), begin, read, write, remove or cut; before the first of these, with record";
@@ -37,51 +34,98 @@ const FIRST_LINE: &str = "an object with limits stands in line 1 alone: leave it
 const BY_NUMBER: &str =
     ": a procedure is named by its number, and those of line 1 are numbered from 5";
 
+/// What follows the word of a request.
+#[derive(Clone, Copy)]
+enum Rest {
+    Nothing,
+    Call,
+    Transaction,
+    Key,
+    Value,
+    Record,
+    Job,
+}
+
+/// The words of requests, with what follows each and the form of the whole.
+const REQUESTS: [(&str, Rest, &str); 11] = [
+    ("start", Rest::Call, START),
+    ("step", Rest::Transaction, "[\"step\",transaction]"),
+    ("commit", Rest::Transaction, "[\"commit\",transaction]"),
+    ("quit", Rest::Transaction, "[\"quit\",transaction]"),
+    ("begin", Rest::Nothing, "[\"begin\"]"),
+    ("read", Rest::Key, "[\"read\",transaction,table,number]"),
+    (
+        "write",
+        Rest::Value,
+        "[\"write\",transaction,table,number,value]",
+    ),
+    ("remove", Rest::Key, "[\"remove\",transaction,table,number]"),
+    ("cut", Rest::Nothing, "[\"cut\"]"),
+    ("record", Rest::Record, RECORD),
+    ("job", Rest::Job, JOB),
+];
+
 /// Why a tree is no event of a script.
 pub(crate) fn event_fault(typed: Typed<'_>, tree: &Value) -> Message {
-    match word_in(tree) {
-        Some("start") => call_fault(typed, START, tree),
-        Some("begin") => unexpected(typed, "[\"begin\"]", tree),
-        Some("read") => key_fault(typed, "[\"read\",transaction,table,number]", tree),
-        Some("remove") => key_fault(typed, "[\"remove\",transaction,table,number]", tree),
-        Some("write") => write_fault(typed, tree),
-        Some("step") => transaction_fault(typed, "[\"step\",transaction]", tree),
-        Some("commit") => transaction_fault(typed, "[\"commit\",transaction]", tree),
-        Some("quit") => transaction_fault(typed, "[\"quit\",transaction]", tree),
-        Some("cut") => unexpected(typed, "[\"cut\"]", tree),
-        Some("record") => misplaced_record(typed, "event or cut", tree),
-        Some("job") => misplaced_request(
+    let Some(word) = word_in(tree) else {
+        return no_request_fault(typed, "an event, as [\"step\",0]", tree);
+    };
+    let Some((rest, form)) = request_of(word) else {
+        return unknown(typed, word, LINES);
+    };
+    match rest {
+        Rest::Nothing => unexpected(typed, form, tree),
+        Rest::Call => call_fault(typed, form, tree),
+        Rest::Transaction => transaction_fault(typed, form, tree),
+        Rest::Key => key_fault(typed, form, tree),
+        Rest::Value => write_fault(typed, form, tree),
+        Rest::Record => misplaced_record(typed, "event or cut", form, tree),
+        Rest::Job => misplaced_request(
             typed,
             "a job stands in the input of \"sgt script\", which takes events: ",
             START,
         ),
-        Some(word) => unknown(typed, word, LINES),
-        None if tree.get("limits").is_some() => words(typed, FIRST_LINE),
-        None => unexpected(typed, "an event, as [\"step\",0]", tree),
     }
 }
 
 /// Why a tree is no job of a bank.
 pub(crate) fn job_fault(typed: Typed<'_>, tree: &Value) -> Message {
-    match word_in(tree) {
-        Some("job") => call_fault(typed, JOB, tree),
-        Some("record") => misplaced_record(typed, "job", tree),
-        Some(
-            "begin" | "start" | "step" | "read" | "write" | "remove" | "commit" | "quit" | "cut",
-        ) => misplaced_request(
+    let Some(word) = word_in(tree) else {
+        return no_request_fault(typed, "a job, as [\"job\",0,[1]]", tree);
+    };
+    match request_of(word) {
+        Some((Rest::Job, form)) => call_fault(typed, form, tree),
+        Some((Rest::Record, form)) => misplaced_record(typed, "job", form, tree),
+        Some(_) => misplaced_request(
             typed,
             "an event stands in the input of \"sgt bank\", which takes jobs: ",
             JOB,
         ),
-        Some(word) => unknown(typed, word, JOBS),
-        None if tree.get("limits").is_some() => words(typed, FIRST_LINE),
-        None => unexpected(typed, "a job, as [\"job\",0,[1]]", tree),
+        None => unknown(typed, word, JOBS),
     }
+}
+
+// What follows this word and the form of the whole, if the word is that of a request.
+fn request_of(word: &str) -> Option<(Rest, &'static str)> {
+    for (known, rest, form) in REQUESTS {
+        if known == word {
+            return Some((rest, form));
+        }
+    }
+    None
 }
 
 // The word that a list starts with.
 fn word_in(tree: &Value) -> Option<&str> {
     word_of(items(tree)?)
+}
+
+// The error of a tree that starts with no word: it is line 1 at another place, or something else than what was wanted.
+fn no_request_fault(typed: Typed<'_>, wanted: &str, tree: &Value) -> Message {
+    match tree.get("limits") {
+        Some(_) => words(typed, FIRST_LINE),
+        None => unexpected(typed, wanted, tree),
+    }
 }
 
 // The message that a request of the other kind is there in place of this form.
@@ -91,7 +135,7 @@ fn misplaced_request(typed: Typed<'_>, words: &str, form: &str) -> Message {
 
 // Why a list that starts with the word of a record adds none: its form, its first part that is wrong, or that records
 // must come before the first of these.
-fn misplaced_record(typed: Typed<'_>, first: &str, tree: &Value) -> Message {
+fn misplaced_record(typed: Typed<'_>, first: &str, form: &str, tree: &Value) -> Message {
     match (numbers(tree), items(tree)) {
         (Some(_), _) => Ok(Some(format!(in typed.alloc;
             "records stand before the first {first}"
@@ -102,7 +146,7 @@ fn misplaced_record(typed: Typed<'_>, first: &str, tree: &Value) -> Message {
                 None => value_fault(typed, 3, value),
             }
         }
-        _ => unexpected(typed, RECORD, tree),
+        _ => unexpected(typed, form, tree),
     }
 }
 
@@ -122,14 +166,14 @@ fn key_fault(typed: Typed<'_>, form: &str, tree: &Value) -> Message {
     }
 }
 
-// The error of a list that must be a write.
-fn write_fault(typed: Typed<'_>, tree: &Value) -> Message {
+// The error of a list that must be a write, in this form.
+fn write_fault(typed: Typed<'_>, form: &str, tree: &Value) -> Message {
     match items(tree) {
         Some([_, number, table, id, value]) => match access_fault(typed, number, table, id)? {
             Some(text) => Ok(Some(text)),
             None => value_fault(typed, 4, value),
         },
-        _ => unexpected(typed, WRITE, tree),
+        _ => unexpected(typed, form, tree),
     }
 }
 
