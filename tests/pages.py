@@ -226,7 +226,6 @@ def draw_the_crates_in_order(_sgt):
     drawn = re.findall(r"\bsgt\w*", "\n".join(blocks_of("docs/ARCHITECTURE.md", "")[0]))
     for line in (TOP / "crates.txt").read_text(encoding="utf-8").split("\n"):
         crate, colon, uses = line.partition(":")
-        crate = crate.removesuffix(" staticlib")
         if not colon or line.startswith("#") or "test" in crate or "runs" in crate:
             continue
         for used in uses.split():

@@ -45,6 +45,7 @@ desk_in d h = record {
 abbrev pub deadline_of : ℕ → ℕ → Deadline
 deadline_of until deadline = cond (nat_eq until 1) AtOnce (cond (nat_eq until 2) (At deadline) Never)
 
+-- the deadline of a struct
 abbrev pub deadline_in : SgtAsk → Deadline
 deadline_in s = deadline_of s.until s.deadline
 
@@ -54,6 +55,7 @@ reason_of reason number turn first = cond (nat_eq reason 1) (Some (Turn turn fir
     (cond (nat_eq reason 3) (Some (End number)) (cond (nat_eq reason 4) (Some (Busy number))
     (cond (nat_eq reason 5) (Some Cut) None))))
 
+-- the reason of a struct
 abbrev pub reason_in : SgtAsk → Option Reason
 reason_in s = reason_of s.reason s.number s.turn s.first
 

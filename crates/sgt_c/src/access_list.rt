@@ -19,8 +19,7 @@ use std::alloc::Global;
 /// It reads the entries back to the transaction's start.
 ///
 /// `BUSY`; `CLOSED`.
-#[unsafe(no_mangle)]
-pub extern "C" fn sgt_accesses(
+pub fn sgt_accesses(
     alloc: Global,
     engine: &mut Handle,
     t: u32,

@@ -22,13 +22,7 @@ use std::alloc::{AllocError, Global};
 ///
 /// - `BAD_CALL`: the fields say no reply.
 /// - `NO_MEMORY`: an allocation failed.
-#[unsafe(no_mangle)]
-pub extern "C" fn sgt_reply_text(
-    alloc: Global,
-    reply: &SgtReply,
-    text: &mut [u8],
-    length: &mut u64,
-) -> u32
+pub fn sgt_reply_text(alloc: Global, reply: &SgtReply, text: &mut [u8], length: &mut u64) -> u32
     ensures text { (r : Reply) → HoldsValidReply reply.now r → result ≡ 0 → IsWritten (reply_text r) text.old text.new length.new }
     ensures bad_call { (result ≡ 5) ↔ ((r : Reply) → ¬ HoldsValidReply reply.now r) }
     ensures statuses { result ≢ 5 → result ≤ 1 }
@@ -51,14 +45,8 @@ pub extern "C" fn sgt_reply_text(
 ///
 /// - `BAD_CALL`: the kind is not that of a fault.
 /// - `NO_MEMORY`: an allocation failed.
-#[unsafe(no_mangle)]
 #[tactic(auto, using(crate::proofs::Writings::fault_words))]
-pub extern "C" fn sgt_fault_text(
-    alloc: Global,
-    fault: &SgtFault,
-    text: &mut [u8],
-    length: &mut u64,
-) -> u32
+pub fn sgt_fault_text(alloc: Global, fault: &SgtFault, text: &mut [u8], length: &mut u64) -> u32
     ensures text { (e : OpeningError) → HoldsFault fault.now e → result ≡ 0 → IsWritten (fault_text e) text.old text.new length.new }
     ensures bad_call { (result ≡ 5) ↔ (¬ IsFaultKind fault.now.kind) }
     ensures statuses { result ≢ 5 → result ≤ 1 }

@@ -20,8 +20,7 @@ use std::alloc::Global;
 /// - `STILL_LIVE`, tested next: transactions are live; their number is written to `live`.
 /// - `TOO_MANY`: no number is left for another part, after 2^64 - 1 cuts.
 /// - `NO_MEMORY`: an allocation failed.
-#[unsafe(no_mangle)]
-pub extern "C" fn sgt_cut(alloc: Global, engine: &mut Handle, live: &mut u64) -> u32
+pub fn sgt_cut(alloc: Global, engine: &mut Handle, live: &mut u64) -> u32
     ensures cut { result ≡ 0 → Cut engine.old.slot.held engine.new.slot.held }
     ensures unchanged { result ≢ 0 → engine.new.slot.held ≡ engine.old.slot.held }
     ensures still_live { (result ≡ 6) ↔ IsSomeoneLive engine.old.slot.held }
@@ -49,8 +48,7 @@ pub extern "C" fn sgt_cut(alloc: Global, engine: &mut Handle, live: &mut u64) ->
 /// transaction number together name one transaction across all parts.
 ///
 /// `BUSY`; `CLOSED`.
-#[unsafe(no_mangle)]
-pub extern "C" fn sgt_part(alloc: Global, engine: &mut Handle, part: &mut u64) -> u32
+pub fn sgt_part(alloc: Global, engine: &mut Handle, part: &mut u64) -> u32
     ensures part { result ≡ 0 → IfSome engine.old.slot.held (λ h. part.new ≡ h.part) }
     ensures visits { Visits result engine.old.state engine.old.slot.held engine.new.state }
     ensures statuses { result ≢ 10 → result ≢ 0 → result ≡ 2 }

@@ -24,8 +24,7 @@ use std::alloc::Global;
 ///
 /// - `BAD_CALL`, tested first: the number is over 65535, or there are over 4 arguments.
 /// - `BUSY`; `CLOSED`; `NO_MEMORY`.
-#[unsafe(no_mangle)]
-pub extern "C" fn sgt_start(
+pub fn sgt_start(
     alloc: Global,
     engine: &mut Handle,
     procedure: u64,
@@ -49,8 +48,7 @@ pub extern "C" fn sgt_start(
 /// Runs the transaction up to and including its next access.
 ///
 /// `NO_MEMORY`; `BUSY`; `CLOSED`.
-#[unsafe(no_mangle)]
-pub extern "C" fn sgt_step(alloc: Global, engine: &mut Handle, t: u32, reply: &mut SgtReply) -> u32
+pub fn sgt_step(alloc: Global, engine: &mut Handle, t: u32, reply: &mut SgtReply) -> u32
     ensures ok { result ≡ 0 → Answered (Step t) engine.old.slot.held engine.new.slot.held reply.new }
     ensures unchanged { result ≢ 0 → engine.new.slot.held ≡ engine.old.slot.held }
     ensures writes { WritesReply result reply.old reply.new }
@@ -70,13 +68,7 @@ pub extern "C" fn sgt_step(alloc: Global, engine: &mut Handle, t: u32, reply: &m
 /// Commits the transaction.
 ///
 /// `NO_MEMORY`; `BUSY`; `CLOSED`.
-#[unsafe(no_mangle)]
-pub extern "C" fn sgt_commit(
-    alloc: Global,
-    engine: &mut Handle,
-    t: u32,
-    reply: &mut SgtReply,
-) -> u32
+pub fn sgt_commit(alloc: Global, engine: &mut Handle, t: u32, reply: &mut SgtReply) -> u32
     ensures ok { result ≡ 0 → Answered (Commit t) engine.old.slot.held engine.new.slot.held reply.new }
     ensures unchanged { result ≢ 0 → engine.new.slot.held ≡ engine.old.slot.held }
     ensures writes { WritesReply result reply.old reply.new }
@@ -90,8 +82,7 @@ pub extern "C" fn sgt_commit(
 /// Aborts the transaction for its caller (`quit`). If it is live, this succeeds.
 ///
 /// `NO_MEMORY`; `BUSY`; `CLOSED`.
-#[unsafe(no_mangle)]
-pub extern "C" fn sgt_quit(alloc: Global, engine: &mut Handle, t: u32, reply: &mut SgtReply) -> u32
+pub fn sgt_quit(alloc: Global, engine: &mut Handle, t: u32, reply: &mut SgtReply) -> u32
     ensures ok { result ≡ 0 → Answered (Quit t) engine.old.slot.held engine.new.slot.held reply.new }
     ensures unchanged { result ≢ 0 → engine.new.slot.held ≡ engine.old.slot.held }
     ensures writes { WritesReply result reply.old reply.new }

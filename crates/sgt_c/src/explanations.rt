@@ -15,13 +15,7 @@ use std::alloc::Global;
 ///
 /// - `NONE`: there is nothing to explain, as the bytes are an opening.
 /// - `NO_MEMORY`: an allocation failed.
-#[unsafe(no_mangle)]
-pub extern "C" fn sgt_explain_opening(
-    alloc: Global,
-    opening: &[u8],
-    text: &mut [u8],
-    length: &mut u64,
-) -> u32
+pub fn sgt_explain_opening(alloc: Global, opening: &[u8], text: &mut [u8], length: &mut u64) -> u32
     ensures refused { result ≡ 0 → SpellsNoOpening 1 opening.now }
     ensures text { result ≡ 0 → (words : List ℕ) × IsWritten words text.old text.new length.new }
     ensures statuses { result ≢ 4 → result ≤ 1 }
@@ -41,8 +35,7 @@ pub extern "C" fn sgt_explain_opening(
 ///
 /// - `NONE`: there is nothing to explain, as the text spells a procedure without a flaw.
 /// - `NO_MEMORY`: an allocation failed.
-#[unsafe(no_mangle)]
-pub extern "C" fn sgt_explain_procedure(
+pub fn sgt_explain_procedure(
     alloc: Global,
     number: u64,
     procedure: &[u8],

@@ -17,8 +17,7 @@ use std::alloc::Global;
 /// The number of entries in the history: one for each event.
 ///
 /// `BUSY`; `CLOSED`.
-#[unsafe(no_mangle)]
-pub extern "C" fn sgt_entries(alloc: Global, engine: &mut Handle, count: &mut u64) -> u32
+pub fn sgt_entries(alloc: Global, engine: &mut Handle, count: &mut u64) -> u32
     ensures count { result ≡ 0 → IfSome engine.old.slot.held (λ h. count.new ≡ length h.engine.past) }
     ensures visits { Visits result engine.old.state engine.old.slot.held engine.new.state }
     ensures statuses { result ≢ 10 → result ≢ 0 → result ≡ 2 }
@@ -35,8 +34,7 @@ pub extern "C" fn sgt_entries(alloc: Global, engine: &mut Handle, count: &mut u6
 ///
 /// - `BUSY`; `CLOSED`.
 /// - `NONE`: the history ends before this position.
-#[unsafe(no_mangle)]
-pub extern "C" fn sgt_entry(
+pub fn sgt_entry(
     alloc: Global,
     engine: &mut Handle,
     place: u64,
@@ -93,8 +91,7 @@ fn lists_of(entry: &EntryRef<'_>) -> ReplyLists
 /// entries are not counted in. Nothing else changes.
 ///
 /// `NO_MEMORY`; `BUSY`; `CLOSED`.
-#[unsafe(no_mangle)]
-pub extern "C" fn sgt_reserve(alloc: Global, engine: &mut Handle, entries: u64) -> u32
+pub fn sgt_reserve(alloc: Global, engine: &mut Handle, entries: u64) -> u32
     ensures visits { Visits result engine.old.state engine.old.slot.held engine.new.state }
     ensures statuses { result ≢ 10 → result ≤ 2 }
     ensures same { engine.new.slot.held ≡ engine.old.slot.held }

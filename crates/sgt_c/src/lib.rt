@@ -1,4 +1,5 @@
-//! The engine of the program, for C and for languages that call C: a static library.
+//! The engine of the program, for C and for languages that call C. `bindings/build` makes the static library, which has
+//! a function for C for each one of this crate, and that calls it.
 //!
 //! C keeps an engine in a handle, [`Handle`]. It is all zero bytes before `sgt_open` and after `sgt_close`. Each call
 //! returns a status. The reply to an event is written into an [`SgtReply`], the `sgt_reply` of `sgt.h`. A refusal such
@@ -56,17 +57,39 @@ mod writes;
 // An engine that threads share.
 mod shared;
 
+pub use access_list::sgt_accesses;
 pub use access_struct::SgtAccess;
+pub use buffer_text::{sgt_fault_text, sgt_reply_text};
 pub use call_struct::SgtCall;
+pub use cutting::{sgt_cut, sgt_part};
 pub use event_struct::SgtEvent;
+pub use events::{sgt_commit, sgt_quit, sgt_start, sgt_step};
+pub use explanations::{sgt_explain_opening, sgt_explain_procedure};
 pub use fault_struct::SgtFault;
 pub use handle::Handle;
+pub use history::{sgt_entries, sgt_entry, sgt_reserve};
+pub use limits::sgt_limits;
+pub use live::sgt_live_tids;
+pub use opening::{sgt_close, sgt_open, sgt_open_bare, sgt_open_with};
+pub use own_accesses::{sgt_begin, sgt_read, sgt_remove, sgt_write};
+pub use procedure_text::sgt_procedure_text;
+pub use procedures::sgt_procedure;
+pub use putting::sgt_put;
+pub use reading::sgt_get;
+pub use replayed_calls::sgt_calls;
 pub use reply_struct::{SgtOutcome, SgtReply};
 pub use row_struct::SgtRow;
+pub use rows::{sgt_records, sgt_rows};
+pub use run::sgt_run;
+pub use run_many::sgt_run_many;
 pub use sgt_desk::Feed;
-pub use shared::alone::SgtSolo;
+pub use shared::alone::{SgtSolo, sgt_desk_admits, sgt_desk_is_next_alone, sgt_desk_is_undone};
 pub use shared::ask_struct::SgtAsk;
+pub use shared::calls::{sgt_desk_commit, sgt_desk_make, sgt_desk_run, sgt_desk_start};
+pub use shared::cutting::{sgt_desk_cut, sgt_desk_cuts, sgt_desk_leave};
 pub use shared::desk_struct::SgtDesk;
-pub use shared::planning::SgtPlan;
+pub use shared::handing_on::sgt_desk_hand_on;
+pub use shared::planning::{SgtPlan, sgt_desk_plan, sgt_desk_put_off};
 pub use shared::run_struct::SgtRun;
-pub use shared::waiting::SgtNote;
+pub use shared::waiting::{SgtNote, sgt_desk_waits_for_itself};
+pub use writes::sgt_wrote;

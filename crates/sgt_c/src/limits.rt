@@ -12,8 +12,7 @@ use std::alloc::Global;
 /// and when a code that a procedure raises is reported: 0 at the step, 1 at the commit.
 ///
 /// `BUSY`; `CLOSED`.
-#[unsafe(no_mangle)]
-pub extern "C" fn sgt_limits(alloc: Global, engine: &mut Handle, limits: &mut [u64; 3]) -> u32
+pub fn sgt_limits(alloc: Global, engine: &mut Handle, limits: &mut [u64; 3]) -> u32
     ensures limits { result ≡ 0 → IfSome engine.old.slot.held (λ h. limits.new ≡ limits_of h.engine.limits) }
     ensures visits { Visits result engine.old.state engine.old.slot.held engine.new.state }
     ensures statuses { result ≢ 10 → result ≢ 0 → result ≡ 2 }

@@ -11,8 +11,7 @@ use std::alloc::Global;
 /// The numbers of the live transactions, rising: they are written to the first items of `tids`, and how many they are to `count`.
 ///
 /// `BUSY`; `CLOSED`.
-#[unsafe(no_mangle)]
-pub extern "C" fn sgt_live_tids(
+pub fn sgt_live_tids(
     alloc: Global,
     engine: &mut Handle,
     tids: &mut [u32; 32],

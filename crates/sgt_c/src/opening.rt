@@ -41,13 +41,7 @@ macro_rules! must_be_closed {
 /// - `OPEN`: the handle is open.
 /// - `NO_MEMORY`: an allocation failed.
 /// - From 16 on: a fault of the opening, which is written to `fault`.
-#[unsafe(no_mangle)]
-pub extern "C" fn sgt_open(
-    alloc: Global,
-    engine: &mut Handle,
-    opening: &[u8],
-    fault: &mut SgtFault,
-) -> u32
+pub fn sgt_open(alloc: Global, engine: &mut Handle, opening: &[u8], fault: &mut SgtFault) -> u32
     ensures opened { result ≡ 0 → IfSome engine.new.slot.held (λ h. OpenedAs opening.now h.engine) }
     ensures first_part { result ≡ 0 → IfSome engine.new.slot.held (λ h. h.part ≡ 0) }
     ensures is_open { result ≡ 0 → IsSome engine.new.slot.held }
@@ -88,8 +82,7 @@ fn make(alloc: Global, opening: &[u8]) -> Result<Box<Held>, OpeningError>
 /// - `BAD_CALL`, tested next: a row is out of its range.
 /// - `NO_MEMORY`: an allocation failed.
 /// - From 16 on: a fault of the opening, which is written to `fault`.
-#[unsafe(no_mangle)]
-pub extern "C" fn sgt_open_with(
+pub fn sgt_open_with(
     alloc: Global,
     engine: &mut Handle,
     opening: &[u8],
@@ -172,14 +165,7 @@ fn put_row(rows: &mut Rows, row: &SgtRow) -> Result<(), NoMemory>
 /// - `OPEN`: the handle is open.
 /// - `BAD_LIMITS`, tested next: a limit is out of its range.
 /// - `NO_MEMORY`: an allocation failed.
-#[unsafe(no_mangle)]
-pub extern "C" fn sgt_open_bare(
-    alloc: Global,
-    engine: &mut Handle,
-    live: u64,
-    begins: u64,
-    asks: u64,
-) -> u32
+pub fn sgt_open_bare(alloc: Global, engine: &mut Handle, live: u64, begins: u64, asks: u64) -> u32
     ensures opened { result ≡ 0 → IfSome engine.new.slot.held (λ h.
         h.engine ≡ made_of [] [] (limits_by live begins asks)) }
     ensures first_part { result ≡ 0 → IfSome engine.new.slot.held (λ h. h.part ≡ 0) }
@@ -244,8 +230,7 @@ fn make_bare(alloc: Global, limits: Limits) -> Result<Box<Held>, NoMemory>
 
 /// Closes the handle, and frees all memory of the engine. A closed handle stays closed, and a busy one is left as it
 /// is.
-#[unsafe(no_mangle)]
-pub extern "C" fn sgt_close(alloc: Global, engine: &mut Handle)
+pub fn sgt_close(alloc: Global, engine: &mut Handle)
     ensures closed { engine.new.slot.held ≡ None }
     ensures leaves { LeavesFree engine.old.state engine.new.state }
 {

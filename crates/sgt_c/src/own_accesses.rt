@@ -19,8 +19,7 @@ use std::alloc::Global;
 /// `sgt_write` and `sgt_remove`.
 ///
 /// `NO_MEMORY`; `BUSY`; `CLOSED`.
-#[unsafe(no_mangle)]
-pub extern "C" fn sgt_begin(alloc: Global, engine: &mut Handle, reply: &mut SgtReply) -> u32
+pub fn sgt_begin(alloc: Global, engine: &mut Handle, reply: &mut SgtReply) -> u32
     ensures ok { result ≡ 0 → Answered (Start 65535 []) engine.old.slot.held engine.new.slot.held reply.new }
     ensures unchanged { result ≢ 0 → engine.new.slot.held ≡ engine.old.slot.held }
     ensures writes { WritesReply result reply.old reply.new }
@@ -38,8 +37,7 @@ pub extern "C" fn sgt_begin(alloc: Global, engine: &mut Handle, reply: &mut SgtR
 ///
 /// - `BAD_CALL`, tested first: the table is over 7, or the number is no value.
 /// - `NO_MEMORY`; `BUSY`; `CLOSED`.
-#[unsafe(no_mangle)]
-pub extern "C" fn sgt_read(
+pub fn sgt_read(
     alloc: Global,
     engine: &mut Handle,
     t: u32,
@@ -65,8 +63,7 @@ pub extern "C" fn sgt_read(
 ///
 /// - `BAD_CALL`, tested first: the table is over 7, or the number is no value.
 /// - `NO_MEMORY`; `BUSY`; `CLOSED`.
-#[unsafe(no_mangle)]
-pub extern "C" fn sgt_write(
+pub fn sgt_write(
     alloc: Global,
     engine: &mut Handle,
     t: u32,
@@ -93,8 +90,7 @@ pub extern "C" fn sgt_write(
 ///
 /// - `BAD_CALL`, tested first: the table is over 7, or the number is no value.
 /// - `NO_MEMORY`; `BUSY`; `CLOSED`.
-#[unsafe(no_mangle)]
-pub extern "C" fn sgt_remove(
+pub fn sgt_remove(
     alloc: Global,
     engine: &mut Handle,
     t: u32,

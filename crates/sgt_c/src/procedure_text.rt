@@ -20,8 +20,7 @@ use std::alloc::Global;
 /// - `BUSY`; `CLOSED`.
 /// - `NONE`: no procedure has this number.
 /// - `NO_MEMORY`: an allocation failed.
-#[unsafe(no_mangle)]
-pub extern "C" fn sgt_procedure_text(
+pub fn sgt_procedure_text(
     alloc: Global,
     engine: &mut Handle,
     number: u64,

@@ -21,8 +21,7 @@ use std::alloc::Global;
 /// - `TOO_MANY`: all 65535 numbers are used; number 65535 is that of the empty procedure.
 /// - From 16 on: a fault of the text, which is written to `fault` with the number that the procedure was to get.
 /// - `NO_MEMORY`: an allocation failed.
-#[unsafe(no_mangle)]
-pub extern "C" fn sgt_procedure(
+pub fn sgt_procedure(
     alloc: Global,
     engine: &mut Handle,
     text: &[u8],

@@ -25,8 +25,7 @@ use std::alloc::Global;
 /// - `TAKEN`: the key of a row has a value, or is the key of an earlier row; the index of the first such row is written
 /// to `at`.
 /// - `NO_MEMORY`: an allocation failed.
-#[unsafe(no_mangle)]
-pub extern "C" fn sgt_put(alloc: Global, engine: &mut Handle, rows: &[SgtRow], at: &mut u64) -> u32
+pub fn sgt_put(alloc: Global, engine: &mut Handle, rows: &[SgtRow], at: &mut u64) -> u32
     ensures put { result ≡ 0 → Put engine.old.slot.held rows.now engine.new.slot.held }
     ensures unchanged { result ≢ 0 → engine.new.slot.held ≡ engine.old.slot.held }
     ensures bad_row { result ≡ 5 → IsFirstBad rows.now at.new }

@@ -17,14 +17,7 @@ use std::alloc::Global;
 /// - `BAD_CALL`, tested first: the table is over 7, or the number is no value.
 /// - `BUSY`; `CLOSED`.
 /// - `NONE`: there is no such record.
-#[unsafe(no_mangle)]
-pub extern "C" fn sgt_get(
-    alloc: Global,
-    engine: &mut Handle,
-    table: u64,
-    number: i64,
-    value: &mut i64,
-) -> u32
+pub fn sgt_get(alloc: Global, engine: &mut Handle, table: u64, number: i64, value: &mut i64) -> u32
     ensures found { result ≡ 0 → IfSome engine.old.slot.held (λ h.
         settled (contents_of h.engine.opening) h.engine.past (table, number) ≡ Some value.new) }
     ensures replayed { result ≡ 0 → IfSome engine.old.slot.held (λ h.

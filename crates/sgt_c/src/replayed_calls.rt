@@ -31,8 +31,7 @@ use std::alloc::Global;
 ///
 /// - `BUSY`; `CLOSED`.
 /// - `NONE`: the history has fewer entries than this position.
-#[unsafe(no_mangle)]
-pub extern "C" fn sgt_calls(
+pub fn sgt_calls(
     alloc: Global,
     engine: &mut Handle,
     from: u64,

@@ -22,8 +22,7 @@ use std::alloc::Global;
 ///
 /// - `BAD_CALL`, tested first: the table is over 7, or the number is no value.
 /// - `BUSY`; `CLOSED`; `NO_MEMORY`.
-#[unsafe(no_mangle)]
-pub extern "C" fn sgt_rows(
+pub fn sgt_rows(
     alloc: Global,
     engine: &mut Handle,
     table: u64,
@@ -57,8 +56,7 @@ pub extern "C" fn sgt_rows(
 /// How many records the committed database has. The call costs as much as one of `sgt_rows` that writes no row.
 ///
 /// `BUSY`; `CLOSED`; `NO_MEMORY`.
-#[unsafe(no_mangle)]
-pub extern "C" fn sgt_records(alloc: Global, engine: &mut Handle, count: &mut u64) -> u32
+pub fn sgt_records(alloc: Global, engine: &mut Handle, count: &mut u64) -> u32
     ensures counted { result ≡ 0 → CountsRows engine.old.slot.held count.new }
     ensures visits { Visits result engine.old.state engine.old.slot.held engine.new.state }
     ensures statuses { result ≢ 10 → result ≤ 2 }

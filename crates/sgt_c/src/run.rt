@@ -25,8 +25,7 @@ use std::alloc::Global;
 /// - `BAD_CALL`, tested first: there are over 4 arguments.
 /// - `BUSY`; `CLOSED`.
 /// - `NO_MEMORY`: nothing has changed, or the transaction that was started is aborted.
-#[unsafe(no_mangle)]
-pub extern "C" fn sgt_run(
+pub fn sgt_run(
     alloc: Global,
     engine: &mut Handle,
     procedure: u64,

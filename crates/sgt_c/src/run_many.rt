@@ -25,8 +25,7 @@ use std::alloc::Global;
 ///   accesses, or there are fewer outcomes than calls.
 /// - `BUSY`; `CLOSED`.
 /// - `NO_MEMORY`: the calls before number `done` ran. Of that call nothing has changed, or its transaction is aborted.
-#[unsafe(no_mangle)]
-pub extern "C" fn sgt_run_many(
+pub fn sgt_run_many(
     alloc: Global,
     engine: &mut Handle,
     calls: &[SgtCall],

@@ -6,8 +6,8 @@
 
 pub mod alone;
 pub mod ask_struct;
-mod calls;
-mod cutting;
+pub mod calls;
+pub mod cutting;
 pub mod desk_struct;
 pub mod handing_on;
 pub mod lent;

@@ -17,8 +17,7 @@ use std::alloc::Global;
 /// It reads the entries back to the last write, or to the transaction's start.
 ///
 /// `BUSY`; `CLOSED`.
-#[unsafe(no_mangle)]
-pub extern "C" fn sgt_wrote(alloc: Global, engine: &mut Handle, t: u32, wrote: &mut u32) -> u32
+pub fn sgt_wrote(alloc: Global, engine: &mut Handle, t: u32, wrote: &mut u32) -> u32
     ensures wrote { result ≡ 0 → IfSome engine.old.slot.held (λ h. wrote.new ≡ cond (any_store (acts h.engine.past t)) 1 0) }
     ensures visits { Visits result engine.old.state engine.old.slot.held engine.new.state }
     ensures statuses { result ≢ 10 → result ≢ 0 → result ≡ 2 }

@@ -28,8 +28,7 @@ pub struct SgtSolo {
 }
 
 /// 1 if the reply, which ended a try, is of a conflict, so that the call is tried again. Else 0.
-#[unsafe(no_mangle)]
-pub extern "C" fn sgt_desk_is_undone(reply: &SgtReply) -> u32
+pub fn sgt_desk_is_undone(reply: &SgtReply) -> u32
     ensures undone { (r : Reply) → HoldsReply reply.now r → (result ≡ 1) ↔ (is_conflict (short_reply r) ≡ true) }
     ensures result { result ≤ 1 }
 {
@@ -47,13 +46,7 @@ fn is_conflict_in(reply: &SgtReply) -> bool
 
 /// 1 if a call that has made this many tries, of which so many are made beside others, makes the next one alone: unless its thread, by the
 /// notes of the live transactions, has one of them. Else 0.
-#[unsafe(no_mangle)]
-pub extern "C" fn sgt_desk_is_next_alone(
-    notes: &[SgtNote],
-    thread: u64,
-    tries: u64,
-    beside: u64,
-) -> u32
+pub fn sgt_desk_is_next_alone(notes: &[SgtNote], thread: u64, tries: u64, beside: u64) -> u32
     ensures alone { (result ≡ 1) ↔ ((beside ≤ tries) × (has_own notes.now thread ≡ false)) }
     ensures result { result ≤ 1 }
 {
@@ -71,8 +64,7 @@ fn has_own(notes: &[SgtNote], thread: u64) -> bool
 /// without a deadline, since `for_ever` is 1, and its thread has a live transaction. The notes are of the live transactions.
 ///
 /// `BUSY`; `CLOSED`.
-#[unsafe(no_mangle)]
-pub extern "C" fn sgt_desk_admits(
+pub fn sgt_desk_admits(
     alloc: Global,
     engine: &mut Handle,
     solo: &mut SgtSolo,

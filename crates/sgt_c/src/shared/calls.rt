@@ -24,8 +24,7 @@ use std::alloc::Global;
 ///
 /// - `BAD_CALL`, tested first: the number is over 65535, or there are over 4 arguments.
 /// - `OK`, `REST`, `TIMED_OUT`, `NO_MEMORY`; `BUSY`; `CLOSED`.
-#[unsafe(no_mangle)]
-pub extern "C" fn sgt_desk_start(
+pub fn sgt_desk_start(
     alloc: Global,
     engine: &mut Handle,
     desk: &mut SgtDesk,
@@ -70,8 +69,7 @@ pub extern "C" fn sgt_desk_start(
 /// A turn of a commit. The reply is written if it is done.
 ///
 /// `OK`, `REST`, `TIMED_OUT`, `STALE`, `NO_MEMORY`; `BUSY`; `CLOSED`.
-#[unsafe(no_mangle)]
-pub extern "C" fn sgt_desk_commit(
+pub fn sgt_desk_commit(
     alloc: Global,
     engine: &mut Handle,
     desk: &mut SgtDesk,
@@ -126,8 +124,7 @@ fn commit_lent(
 ///
 /// - `BAD_CALL`, tested first: the number is over 65535, or there are over 4 arguments.
 /// - `OK`, `REST`, `TIMED_OUT`, `AGAIN`, `NO_MEMORY`; `BUSY`; `CLOSED`.
-#[unsafe(no_mangle)]
-pub extern "C" fn sgt_desk_run(
+pub fn sgt_desk_run(
     alloc: Global,
     engine: &mut Handle,
     desk: &mut SgtDesk,
@@ -185,8 +182,7 @@ fn run_lent(
 ///
 /// - `BAD_CALL`, tested first: the table is over 7, the number is no value, or it is none of these.
 /// - `OK`, `STALE`, `NO_MEMORY`; `BUSY`; `CLOSED`.
-#[unsafe(no_mangle)]
-pub extern "C" fn sgt_desk_make(
+pub fn sgt_desk_make(
     alloc: Global,
     engine: &mut Handle,
     desk: &mut SgtDesk,

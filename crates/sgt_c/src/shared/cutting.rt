@@ -18,8 +18,7 @@ use std::alloc::Global;
 /// A turn of a cut.
 ///
 /// `OK`, `REST`, `TIMED_OUT`, `NO_MEMORY`; `BUSY`; `CLOSED`.
-#[unsafe(no_mangle)]
-pub extern "C" fn sgt_desk_cut(
+pub fn sgt_desk_cut(
     alloc: Global,
     engine: &mut Handle,
     desk: &mut SgtDesk,
@@ -47,8 +46,7 @@ pub extern "C" fn sgt_desk_cut(
 /// other call has made the cut. Else 0. A caller can so look at the history before.
 ///
 /// `BUSY`; `CLOSED`.
-#[unsafe(no_mangle)]
-pub extern "C" fn sgt_desk_cuts(
+pub fn sgt_desk_cuts(
     alloc: Global,
     engine: &mut Handle,
     desk: &SgtDesk,
@@ -76,8 +74,7 @@ pub fn is_busy(held: &Held, desk: &SgtDesk) -> bool
 }
 
 /// Counts a call among those that wait for a cut no longer: its caller gives it up.
-#[unsafe(no_mangle)]
-pub extern "C" fn sgt_desk_leave(desk: &mut SgtDesk, ask: &mut SgtAsk, wakes: &mut u32)
+pub fn sgt_desk_leave(desk: &mut SgtDesk, ask: &mut SgtAsk, wakes: &mut u32)
     ensures cutters { desk.new.cutters ≡ without_call (nat_eq ask.old.is_counted 1) desk.old.cutters }
     ensures counts { (desk.new.ended ≡ desk.old.ended) × (desk.new.reported ≡ desk.old.reported) × (desk.new.committing ≡ desk.old.committing) }
     ensures counted { ask.new.is_counted ≡ cond (nat_eq ask.old.is_counted 1) 0 ask.old.is_counted }

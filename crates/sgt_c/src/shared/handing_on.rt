@@ -17,8 +17,7 @@ use std::alloc::Global;
 ///
 /// - `BUSY`; `CLOSED`.
 /// - `NONE`: there is none yet.
-#[unsafe(no_mangle)]
-pub extern "C" fn sgt_desk_hand_on(
+pub fn sgt_desk_hand_on(
     alloc: Global,
     engine: &mut Handle,
     feed: &mut Feed,

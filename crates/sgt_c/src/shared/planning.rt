@@ -34,8 +34,7 @@ pub struct SgtPlan {
 /// as long as the plan says, the cut is put off. `wakes` becomes 1 if starts wait no longer.
 ///
 /// `BUSY`; `CLOSED`.
-#[unsafe(no_mangle)]
-pub extern "C" fn sgt_desk_plan(
+pub fn sgt_desk_plan(
     alloc: Global,
     engine: &mut Handle,
     desk: &SgtDesk,
@@ -75,8 +74,7 @@ fn plan_next(plan: &mut SgtPlan, entries: u64, is_busy: bool, now: u64, wakes: &
 /// starts wait no longer.
 ///
 /// `BUSY`; `CLOSED`.
-#[unsafe(no_mangle)]
-pub extern "C" fn sgt_desk_put_off(
+pub fn sgt_desk_put_off(
     alloc: Global,
     engine: &mut Handle,
     plan: &mut SgtPlan,

@@ -27,13 +27,7 @@ pub struct SgtNote {
 
 /// 1 if a call of this thread, whose rest is noted already, waits for itself, maybe through others that rest so too. Else 0. `cuts` is 1 if a
 /// cut waits, and `is_cut` is 1 if the call is one. The notes are of all live transactions but those that their call ends by itself.
-#[unsafe(no_mangle)]
-pub extern "C" fn sgt_desk_waits_for_itself(
-    notes: &[SgtNote],
-    thread: u64,
-    cuts: u32,
-    is_cut: u32,
-) -> u32
+pub fn sgt_desk_waits_for_itself(notes: &[SgtNote], thread: u64, cuts: u32, is_cut: u32) -> u32
     ensures waits { length notes.now ≤ 32
         → (result ≡ 1) ↔ WaitsForItself notes.now (nat_eq cuts 1) thread (nat_eq is_cut 1) }
     ensures result { result ≤ 1 }
