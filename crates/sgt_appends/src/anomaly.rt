@@ -7,7 +7,7 @@ use crate::witness::{Edge, Reason};
 /// The name of a witness.
 ///
 /// Adya (1999), chapter 3: phenomena G0 to G2; Kingsbury and Alvaro, Elle (VLDB 2020): the others.
-#[derive(Clone, Copy, Debug, PartialEq, Eq)]
+#[derive(Clone, Copy)]
 pub enum Anomaly {
     /// A cycle of appends alone.
     G0,

@@ -5,7 +5,7 @@ use sgt_model::NoMemory;
 use std::alloc::Global;
 
 /// Which way links are followed.
-#[derive(Clone, Copy, Debug, PartialEq, Eq)]
+#[derive(Clone, Copy)]
 pub(crate) enum Direction {
     Forward,
     Backward,

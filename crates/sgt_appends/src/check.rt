@@ -17,7 +17,7 @@ use sgt_model::NoMemory;
 use std::alloc::Global;
 
 /// A witness that a history is not serializable.
-#[derive(Debug, Drop, PartialEq, Eq)]
+#[derive(Drop)]
 pub enum Witness {
     /// A cycle of precedences: each edge begins where the one before it ends, and the first where the last ends.
     Cycle(Vec<Edge>),
@@ -30,7 +30,7 @@ pub enum Witness {
 }
 
 /// Whether what the clients observed was serializable, with the evidence.
-#[derive(Debug, Drop, PartialEq, Eq)]
+#[derive(Drop)]
 pub enum Verdict {
     /// It was: a serial run.
     Serial(Vec<usize>),

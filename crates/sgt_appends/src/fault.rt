@@ -3,7 +3,7 @@ ghost use Rattle.std.specs.Prelude.{◌≡◌, ◌↔◌, ◌++◌, ℕ, List, I
 ghost use Rattle.sgt_appends.specs.Lists.{IsPrefix};
 
 /// A fault of a single read. Operations are named by their positions in their transactions.
-#[derive(Clone, Copy, Debug, PartialEq, Eq)]
+#[derive(Clone, Copy)]
 pub enum Fault {
     /// It saw a value that no transaction appends.
     Unwritten(u64),

@@ -33,7 +33,7 @@ pub struct Before<'a> {
 }
 
 /// What the search found. It is to be tested.
-#[derive(Debug, Drop, PartialEq, Eq)]
+#[derive(Drop)]
 pub enum Proposal {
     /// A serial order that keeps the pairs.
     Order(Vec<usize>),

@@ -12,7 +12,7 @@ use sgt_model::NoMemory;
 use std::alloc::Global;
 
 /// A link of a graph, whose nodes are numbers, with its reason.
-#[derive(Clone, Copy, Debug, PartialEq, Eq)]
+#[derive(Clone, Copy)]
 pub struct Link {
     /// The node that comes first: the source.
     pub from: usize,
@@ -218,7 +218,7 @@ fn round(alloc: Global, path: Vec<Link>, link: Link) -> Result<Vec<Link>, NoMemo
 }
 
 /// The ranks of the nodes, from 1 on, and the nodes in rank order.
-#[derive(Debug, Drop, PartialEq, Eq)]
+#[derive(Drop)]
 pub struct Sorted {
     pub ranks: Vec<usize>,
     pub order: Vec<usize>,

@@ -12,7 +12,7 @@ use crate::reads::read_of;
 use crate::transaction::{Operation, Transaction};
 
 /// Why one transaction precedes another. Operations are named by their positions in their transactions.
-#[derive(Clone, Copy, Debug, PartialEq, Eq)]
+#[derive(Clone, Copy)]
 pub enum Reason {
     /// The later one read a value that the earlier one appends.
     Seen {
@@ -34,7 +34,7 @@ pub enum Reason {
 }
 
 /// An edge: one transaction precedes another.
-#[derive(Clone, Copy, Debug, PartialEq, Eq)]
+#[derive(Clone, Copy)]
 pub struct Edge {
     pub from: usize,
     pub to: usize,

@@ -2,7 +2,7 @@
 use sgt_model::Args;
 
 /// One call of a procedure, for a worker to run as a transaction of its own.
-#[derive(Debug, Drop, PartialEq, Eq)]
+#[derive(Drop)]
 pub struct Job {
     /// Its index among the jobs of a run, from 0.
     pub number: u32,

@@ -29,7 +29,7 @@ const SCREEN: usize = 60;
 const MOST: usize = 400;
 
 /// What a check writes.
-#[derive(Clone, Copy, Debug, PartialEq, Eq)]
+#[derive(Clone, Copy)]
 pub enum Output {
     /// The report.
     Report,
@@ -51,7 +51,7 @@ pub(crate) struct CheckedHistory {
 }
 
 /// What a check says of a history, whatever it writes.
-#[derive(Clone, Copy, Debug, PartialEq, Eq)]
+#[derive(Clone, Copy)]
 pub struct Verdict {
     /// Whether the history is serializable and recoverable.
     pub sound: bool,

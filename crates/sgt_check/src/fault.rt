@@ -6,7 +6,7 @@ use sgt_notation::NotationFault;
 use thiserror::Error;
 
 /// Why a check ended without a report.
-#[derive(Debug, Drop, PartialEq, Eq, Error)]
+#[derive(Debug, Drop, Error)]
 pub enum CheckFault {
     /// The text is not a history.
     #[error("{0}")]

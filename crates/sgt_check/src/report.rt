@@ -18,7 +18,7 @@ use sgt_model::NoMemory;
 use std::alloc::Global;
 
 /// How many transactions a history has, and how many of them have ended.
-#[derive(Clone, Copy, Debug, Default, PartialEq, Eq)]
+#[derive(Clone, Copy, Default)]
 pub struct Counts {
     /// The number of transactions: operations that are the first of their transaction.
     pub transactions: usize,
@@ -41,7 +41,7 @@ impl Counts {
 
 /// What a check finds. For each class that does not hold, it has the first operation that breaks it, and the
 /// operation that this one breaks it with.
-#[derive(Debug, Drop, PartialEq, Eq)]
+#[derive(Drop)]
 pub struct Report {
     pub counts: Counts,
     /// A serial order or a cycle.

@@ -19,7 +19,7 @@ use std::alloc::Global;
 /// An edge of the serialization graph, with two operations that conflict.
 ///
 /// Bernstein, Hadzilacos and Goodman (1987), chapter 2: serialization graph.
-#[derive(Clone, Copy, Debug, PartialEq, Eq)]
+#[derive(Clone, Copy)]
 pub struct Edge {
     /// The transaction of the earlier operation.
     pub from: u32,

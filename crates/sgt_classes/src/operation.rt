@@ -32,7 +32,7 @@ impl Action {
 
 /// An operation of a history. A history is a slice of them, from position 0 (Bernstein, Hadzilacos and Goodman
 /// (1987), chapter 2, with all operations in one order).
-#[derive(Clone, Copy, Debug, PartialEq, Eq)]
+#[derive(Clone, Copy)]
 pub struct Operation {
     /// The transaction that the operation belongs to.
     pub transaction: u32,
@@ -41,7 +41,7 @@ pub struct Operation {
 }
 
 /// Two operations that exclude a history from a class.
-#[derive(Clone, Copy, Debug, PartialEq, Eq)]
+#[derive(Clone, Copy)]
 pub struct Violation {
     /// The position of the earlier one.
     pub earlier: usize,

@@ -26,7 +26,7 @@ use std::collections::BTreeMap;
 /// Whether a history is serializable, and what shows it.
 ///
 /// Bernstein, Hadzilacos and Goodman (1987), chapter 2: serializability theorem.
-#[derive(Debug, Drop, PartialEq, Eq)]
+#[derive(Drop)]
 pub enum Serializability {
     /// It is serializable: a serial order of the committed transactions. Of those that may come next, the one that
     /// committed first always does. So it is the commit order if that is a serial order.

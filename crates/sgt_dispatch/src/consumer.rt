@@ -12,7 +12,7 @@ use std::marker::Model;
 use std::sync::Wait;
 
 /// The result of a take.
-#[derive(Debug, Drop, PartialEq, Eq)]
+#[derive(Drop)]
 pub enum Take {
     /// The number of the job at the front.
     Job(u32),

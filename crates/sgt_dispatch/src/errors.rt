@@ -3,7 +3,7 @@ use std::alloc::AllocError;
 use thiserror::Error;
 
 /// Why a queue could not be made.
-#[derive(Clone, Copy, Debug, PartialEq, Eq, Error)]
+#[derive(Clone, Copy, Debug, PartialEq, Error)]
 pub enum FeedError {
     /// The capacity is not from 1 to [`MOST_CAPACITY`](crate::MOST_CAPACITY).
     #[error("the room is out of its range")]

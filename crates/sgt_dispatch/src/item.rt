@@ -1,7 +1,7 @@
 //! The items of a queue.
 
 /// An item of a queue.
-#[derive(Debug, Drop, PartialEq, Eq)]
+#[derive(Drop)]
 pub enum Item {
     /// The number of a job, for the consumer that receives it.
     Job(u32),

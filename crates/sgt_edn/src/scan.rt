@@ -9,7 +9,7 @@ use sgt_model::NoMemory;
 use std::alloc::Global;
 
 /// What a scan is in.
-#[derive(Clone, Copy, Debug, PartialEq, Eq)]
+#[derive(Clone, Copy)]
 pub(crate) enum Mode {
     /// Nothing.
     Between,
@@ -30,7 +30,7 @@ pub(crate) enum Mode {
 }
 
 /// How far a scan is.
-#[derive(Clone, Copy, Debug, PartialEq, Eq)]
+#[derive(Clone, Copy)]
 pub(crate) struct Scan {
     pub mode: Mode,
     /// How many collections are open, the outer map among them.

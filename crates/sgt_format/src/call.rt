@@ -2,7 +2,7 @@
 use sgt_model::Args;
 
 /// The call of a procedure that a job's line spells.
-#[derive(Debug, Drop, PartialEq, Eq)]
+#[derive(Drop)]
 pub struct JobCall {
     /// The procedure, by its index in the list of procedures.
     pub procedure: u16,

@@ -10,7 +10,7 @@ use sgt_smallbank::{BadOpening, OpeningFault};
 use std::alloc::AllocError;
 
 /// Why a line spells no event, or no job.
-#[derive(Clone, Copy, Debug, PartialEq, Eq)]
+#[derive(Clone, Copy, Debug)]
 pub enum LineError {
     /// The line is not JSON.
     NotJson,
@@ -29,7 +29,7 @@ impl From<NoMemory> for LineError {
 }
 
 /// Why a line spells no opening.
-#[derive(Debug, Drop, PartialEq, Eq)]
+#[derive(Debug, Drop)]
 pub enum OpeningError {
     /// The line is not JSON.
     NotJson,

@@ -11,7 +11,7 @@ use sgt_model::{Key, NoMemory, is_value};
 use std::alloc::Global;
 
 /// A line that adds a record to an opening: its numbers, in range or not.
-#[derive(Clone, Copy, Debug, PartialEq, Eq)]
+#[derive(Clone, Copy)]
 pub struct RecordLine {
     /// The table of the record.
     pub table: i64,
@@ -22,7 +22,7 @@ pub struct RecordLine {
 }
 
 /// A record: its key and its value.
-#[derive(Clone, Copy, Debug, PartialEq, Eq)]
+#[derive(Clone, Copy)]
 pub struct Record {
     /// Its key.
     pub key: Key,

@@ -16,7 +16,7 @@ use sgt_model::Event;
 use std::alloc::Global;
 
 /// What a line of a script spells, after its opening.
-#[derive(Debug, Drop, PartialEq, Eq)]
+#[derive(Drop)]
 pub enum ScriptLine {
     /// An event, which the engine answers, and which becomes an entry of its history.
     Event(Event),
@@ -25,7 +25,7 @@ pub enum ScriptLine {
 }
 
 /// Which of the two a line of a script is.
-#[derive(Clone, Copy, Debug, PartialEq, Eq)]
+#[derive(Clone, Copy)]
 pub enum LineKind {
     /// An event.
     Event,

@@ -2,7 +2,7 @@
 use sgt_model::Tids;
 
 /// What the graph says of new edges to a transaction.
-#[derive(Debug, Drop, PartialEq, Eq)]
+#[derive(Drop, PartialEq)]
 pub enum Verdict {
     /// They would close no cycle.
     Accepted,
@@ -12,14 +12,14 @@ pub enum Verdict {
 
 /// The positions of a transaction and its new predecessors in a graph, as a plan found them, so that linking needs no search.
 /// Its content is for the graph that made it; a graph of lists needs none.
-#[derive(Clone, Copy, Debug, Default, PartialEq, Eq)]
+#[derive(Clone, Copy, Default)]
 pub struct Link {
     pub to: u8,
     pub from: u32,
 }
 
 /// A verdict which, if it accepts, has the link that adds the edges.
-#[derive(Debug, Drop, PartialEq, Eq)]
+#[derive(Drop)]
 pub enum Plan {
     /// They would close no cycle.
     Free(Link),

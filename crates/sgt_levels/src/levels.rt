@@ -20,7 +20,7 @@ use sgt_model::NoMemory;
 use std::alloc::Global;
 
 /// Whether there is a run of committed reads, with the evidence.
-#[derive(Debug, Drop, PartialEq, Eq)]
+#[derive(Drop)]
 pub enum Committed {
     /// There is: an order of commits.
     Run(Vec<usize>),
@@ -39,7 +39,7 @@ pub enum Committed {
 }
 
 /// Whether there is a snapshot run, with the evidence.
-#[derive(Debug, Drop, PartialEq, Eq)]
+#[derive(Drop)]
 pub enum Snapshot {
     /// There is: an order of commits, and the start of each.
     Run(Snapshots),
@@ -52,7 +52,7 @@ pub enum Snapshot {
 }
 
 /// Whether there is a write order, with the evidence.
-#[derive(Debug, Drop, PartialEq, Eq)]
+#[derive(Drop)]
 pub enum Writes {
     /// There is, since there is a run of committed reads.
     Implied,
@@ -65,7 +65,7 @@ pub enum Writes {
 }
 
 /// The answers for the levels.
-#[derive(Debug, Drop, PartialEq, Eq)]
+#[derive(Drop)]
 pub struct Levels {
     pub writes: Writes,
     pub committed: Committed,

@@ -13,7 +13,7 @@ use sgt_model::NoMemory;
 use std::alloc::Global;
 
 /// Whether there is a snapshot run that keeps orders, with the evidence.
-#[derive(Debug, Drop, PartialEq, Eq)]
+#[derive(Drop)]
 pub enum Ordered {
     /// There is, if it keeps them: an order of commits, and the start of each.
     Run(Snapshots),

@@ -6,7 +6,7 @@ ghost use Rattle.sgt_levels.specs.Ruled.{RulesOut, IsWeakest};
 use sgt_appends::{Edge, Reason};
 
 /// A level of isolation.
-#[derive(Clone, Copy, Debug, PartialEq, Eq)]
+#[derive(Clone, Copy)]
 pub enum Level {
     /// Each read sees what had been committed.
     ReadCommitted,

@@ -8,7 +8,7 @@ use std::alloc::Global;
 use std::collections::BTreeMap;
 
 /// A run of snapshots: the order of commits, and for each place how many had committed when the transaction there began.
-#[derive(Debug, Drop, PartialEq, Eq)]
+#[derive(Drop)]
 pub struct Snapshots {
     pub order: Vec<usize>,
     pub starts: Vec<usize>,

@@ -36,7 +36,7 @@ pub struct Visit {
 }
 
 /// A read that saw one append of a transaction and missed another one at the same key.
-#[derive(Clone, Copy, Debug, PartialEq, Eq)]
+#[derive(Clone, Copy)]
 pub struct Partial {
     pub reader: usize,
     pub read: usize,

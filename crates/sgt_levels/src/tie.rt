@@ -13,7 +13,7 @@ use crate::writes::overwrites;
 use sgt_appends::{Edge, Reason, Transaction, append_at, has, is_shown, read_of_two};
 
 /// Why one transaction comes before another. Operations are named by their positions in their transactions.
-#[derive(Clone, Copy, Debug, PartialEq, Eq)]
+#[derive(Clone, Copy)]
 pub enum Ground {
     /// By what was observed, for which it also comes before in a serial run.
     Observed(Reason),
@@ -34,7 +34,7 @@ pub enum Ground {
 }
 
 /// A tie: one transaction comes before another.
-#[derive(Clone, Copy, Debug, PartialEq, Eq)]
+#[derive(Clone, Copy)]
 pub struct Tie {
     pub from: usize,
     pub to: usize,
@@ -42,7 +42,7 @@ pub struct Tie {
 }
 
 /// A step of a cycle: a tie, or without a ground that the one comes before the other in an order that a run keeps.
-#[derive(Clone, Copy, Debug, PartialEq, Eq)]
+#[derive(Clone, Copy)]
 pub struct Passage {
     pub from: usize,
     pub to: usize,

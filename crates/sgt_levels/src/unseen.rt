@@ -13,7 +13,7 @@ use std::alloc::Global;
 use std::collections::BTreeMap;
 
 /// Two committed transactions append to one key, and no read saw either value. The appends are named by their positions.
-#[derive(Clone, Copy, Debug, PartialEq, Eq)]
+#[derive(Clone, Copy)]
 pub struct Unseen {
     pub one: usize,
     pub first: usize,

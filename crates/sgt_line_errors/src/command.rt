@@ -1,7 +1,7 @@
 //! The command whose run ended with a fault.
 
 /// The command whose run a fault has ended.
-#[derive(Clone, Copy, Debug, PartialEq, Eq)]
+#[derive(Clone, Copy)]
 pub enum Command {
     /// `sgt script`: after its opening, an input has events.
     Script,

@@ -3,7 +3,7 @@ use sgt_model::NoMemory;
 use std::alloc::Global;
 
 /// What may be at a position of a procedure in JSON.
-#[derive(Clone, Copy, PartialEq, Eq)]
+#[derive(Clone, Copy)]
 pub(crate) enum Part {
     /// `[args,[statement,..]]`.
     Procedure,

@@ -5,7 +5,7 @@ ghost use Rattle.sgt_log.specs.EntryParts.{IsQuiet};
 ghost use Rattle.sgt_log.specs.StepKinds.{IsOfKind};
 
 /// What an entry is to a caller that makes one step after another.
-#[derive(Clone, Copy, Debug, PartialEq, Eq)]
+#[derive(Clone, Copy)]
 pub enum StepKind {
     /// A step that read or wrote a value.
     Access,

@@ -10,7 +10,7 @@ use std::str;
 use thiserror::Error;
 
 /// An error of a text. Lines are numbered from 1.
-#[derive(Debug, Drop, PartialEq, Eq, Error)]
+#[derive(Debug, Drop, Error)]
 pub enum NotationFault {
     /// A word of the line spells no operation.
     #[error("line {0}: no operation: {1}")]

@@ -2,7 +2,7 @@
 use sgt_classes::Operation;
 
 /// The history that a text spells.
-#[derive(Debug, Drop, PartialEq, Eq)]
+#[derive(Drop)]
 pub struct History {
     /// The operations, in their order. Each item has a number of its own.
     pub operations: Vec<Operation>,

@@ -15,7 +15,7 @@ pub const MOST_ARGUMENTS: u8 = 4;
 
 /// A flaw in a procedure's text. A path through the text takes either branch of each If, whatever the condition, and
 /// stops at an Ask.
-#[derive(Clone, Copy, Debug, PartialEq, Eq)]
+#[derive(Clone, Copy, Debug)]
 pub enum Flaw {
     /// A register number is over 15.
     HighRegister,

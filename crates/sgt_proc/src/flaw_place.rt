@@ -29,7 +29,7 @@ use sgt_model::{Cond, Expr, NoMemory, Procedure, Statement};
 use std::alloc::Global;
 
 /// The first place of a flaw in a procedure, from the top down and from left to right.
-#[derive(Debug, Drop)]
+#[derive(Drop)]
 pub struct FlawPlace {
     /// The indexes that lead there from the top. The procedure has the number of its arguments at index 0, and its
     /// statements at 1. The items of a statement, a condition or an expression have the indexes from 1 on.

@@ -2,7 +2,7 @@
 use sgt_model::{Answers, Key};
 
 /// The next step of a procedure without its answers: a few bytes, which are copied. `Cursor::answers` returns the answers.
-#[derive(Clone, Copy, Debug, PartialEq, Eq)]
+#[derive(Clone, Copy)]
 pub enum Ahead {
     /// It reads the record.
     Look(Key),
@@ -15,7 +15,7 @@ pub enum Ahead {
 }
 
 /// The next step of a procedure.
-#[derive(Drop, PartialEq, Eq)]
+#[derive(Drop)]
 pub enum Next {
     /// It reads the record.
     Look(Key),

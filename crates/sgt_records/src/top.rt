@@ -5,7 +5,7 @@ ghost use Rattle.sgt_records.specs.Tops.{value_of_top};
 use sgt_model::Tid;
 
 /// What a read of a key returns.
-#[derive(Clone, Copy, Debug, PartialEq, Eq)]
+#[derive(Clone, Copy, PartialEq)]
 pub enum Top {
     /// The last value that a live transaction has written, or none: it has removed the record.
     Pending(Tid, Option<i64>),

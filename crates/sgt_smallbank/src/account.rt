@@ -12,7 +12,7 @@ use std::alloc::Global;
 
 /// A bank account: its name, its customer, and the customer's two balances. `opening` accepts each of the four numbers
 /// only if it lies within fifteen digits.
-#[derive(Clone, Copy, Debug, PartialEq, Eq)]
+#[derive(Clone, Copy)]
 pub struct Account {
     /// The name: a number, the argument of the five procedures.
     pub name: i64,

@@ -5,7 +5,7 @@ ghost use Rattle.sgt_smallbank.specs.declared.errors.BadOpening.TheVariants as b
 use sgt_model::NoMemory;
 
 /// Why no database could be made from accounts.
-#[derive(Clone, Copy, Debug, PartialEq, Eq)]
+#[derive(Clone, Copy)]
 pub enum BadOpening {
     /// An account has this fault, and no account before it has one.
     Fault(OpeningFault),
@@ -22,7 +22,7 @@ impl From<NoMemory> for BadOpening {
 }
 
 /// The fault of an account. A number out of range is reported first, then the name, then the customer.
-#[derive(Clone, Copy, Debug, PartialEq, Eq)]
+#[derive(Clone, Copy, Debug)]
 pub enum OpeningFault {
     /// An earlier account has the same name.
     SameName,

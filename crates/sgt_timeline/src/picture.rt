@@ -65,7 +65,7 @@ pub struct Mark {
 }
 
 /// A part of the legend: the marks or the lines of a kind that the picture has.
-#[derive(Clone, Copy, PartialEq, Eq)]
+#[derive(Clone, Copy)]
 pub enum Part {
     Reads,
     Writes,
