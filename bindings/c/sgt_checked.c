@@ -1,6 +1,6 @@
 /*
  * The calls of sgt.h. Each tests that its pointers are there, and then makes the proved call of crates/sgt_c: that of the same name with
- * `proved_` before it, as bindings/exports.py names it. A list of no items may be null; the proved calls take the address of an object then.
+ * `proved_` before it, as bindings/exports.py writes it. A list of no items may be null; the proved calls get an object's address then.
  */
 #include <stdbool.h>
 
