@@ -67,7 +67,8 @@ def main() -> None:
         sys.exit(__doc__)
     sources, file = map(pathlib.Path, sys.argv[1:])
     functions = [it for source in sorted(sources.rglob("*.rt")) for it in functions_in(source.read_text("utf-8"))]
-    public = re.findall(r"\bsgt_\w+(?=[,;}])", (sources / "lib.rt").read_text("utf-8"))
+    uses = re.findall(r"^pub use [\w:]+::(\w+|\{[^}]*\});$", (sources / "lib.rt").read_text("utf-8"), re.M)
+    public = re.findall(r"\bsgt_\w+", " ".join(uses))
     if sorted(it.name for it in functions) != sorted(public):
         sys.exit(f"{sys.argv[0]}: the functions that are found are not those that {sources}/lib.rt makes public")
     file.parent.mkdir(parents=True, exist_ok=True)

@@ -1,27 +1,53 @@
 #!/usr/bin/env python3
 """Checks that every mutant still applies: that each of its `old:` texts stands exactly once in the file that it names.
 
-Run it anywhere in the repository: tools/edits_apply.py [CRATE..]. It reads the mutants of crates/CRATE/must-fail and of
+Run it anywhere in the repository: tools/edits_apply.py [CRATE..]. It reads the mutants of tests/must-fail/CRATE and of
 tools/edits/CRATE, and proves nothing, so it takes less than a second. It prints each mutant that does not apply, with the reason.
 The last line counts them, and the status is 1 where one does not apply. Whether the prover refuses a mutant is tried by
-`rt must-fail` and by tools/try_edits.py.
+tools/try_edits.py.
 
 It also reads tools/edits/TRIED, where tools/try_edits.py notes what it tried. A line whose mutant is gone fails too. How many mutants of
 tools/edits have no line is printed, and fails nothing.
 """
 import os
+import re
 import sys
 from pathlib import Path
 
 ROOT = Path(__file__).resolve().parent.parent
 CRATES = ROOT / "crates"
 EDITS = ROOT / "tools" / "edits"
+IN_TEST = ROOT / "tests" / "must-fail"
 TRIED = EDITS / "TRIED"
 
 
-def applied(edit, crate):
-    """The changed texts of a crate's files by their paths, or an error that says why the edit does not apply."""
-    path, old, texts = None, None, {}
+FUNCTION = re.compile(r"^( *)(?:pub(?:\(\w+\))? )?(?:const )?fn (\w+)", re.MULTILINE)
+METHODS = re.compile(r"^impl(?:<[^>]*>)? (?:(\w+)(?:<.*>)? for )?&?(\w+)", re.MULTILINE)
+
+
+def module_of(path):
+    """The module of a file of src, or "" if that is the crate itself."""
+    words = path.removeprefix("src/").removesuffix(".rt").split("/")
+    return "::".join(word for word in words if word not in ("lib", "main", "mod"))
+
+
+def function_at(path, text, place):
+    """The function that a place of a file of src stands in, as the end of its name that the prover prints, or "" if in none."""
+    heads = [*FUNCTION.finditer(text, 0, text.index("\n", place))]
+    if not heads or f"\n{heads[-1][1]}}}\n" in text[heads[-1].start() : place]:
+        return ""
+    indent, name = heads[-1].groups()
+    methods = [*METHODS.finditer(text, 0, heads[-1].start())]
+    if indent and methods:
+        of_trait, kind = methods[-1].groups()
+        return f"{kind}{of_trait or ''}::{name}"
+    return f"{module_of(path)}::{name}".removeprefix("::")
+
+
+def applied(edit, crate, changed=None):
+    """The texts of the files that a mutant changes, by their paths, and the functions. It is applied to a crate, or to `changed` texts of
+    it. An error says why it does not apply."""
+    path, old, texts, functions, is_changed = None, None, dict(changed or {}), set(), False
     for line in edit.read_text(encoding="utf-8").split("\n"):
         if line.startswith("file: "):
             path = line.removeprefix("file: ").strip()
@@ -39,11 +65,14 @@ def applied(edit, crate):
             found = texts[path].count(old)
             if found != 1:
                 raise ValueError(f"{path} has {found} times the text {old}")
+            place = texts[path].index(old)
             texts[path] = texts[path].replace(old, line.removeprefix("new:").removeprefix(" "))
-            old = None
-    if not texts:
+            if path.startswith("src/"):
+                functions.add(function_at(path, texts[path], place))
+            old, is_changed = None, True
+    if not is_changed:
         raise ValueError("it has no pair of `old:` and `new:` lines")
-    return texts
+    return texts, sorted(functions - {""})
 
 
 def lost_lines():
@@ -55,8 +84,7 @@ def lost_lines():
 
 
 def main(names):
-    found = [(edit, edit.parent.parent) for edit in sorted(CRATES.glob("*/must-fail/*.edit"))]
-    found += [(edit, CRATES / edit.parent.name) for edit in sorted(EDITS.glob("*/*.edit"))]
+    found = [(edit, CRATES / edit.parent.name) for top in (IN_TEST, EDITS) for edit in sorted(top.glob("*/*.edit"))]
     tried = [(edit, crate) for edit, crate in found if not names or crate.name in names]
     failed = 0
     for edit, crate in tried:

@@ -6,11 +6,10 @@
 It runs `./test` of the repository, or the command that is named, and shows its output. Meanwhile it looks at the processes
 of that run every half second, and reads from their words what each prover works on. The table has a row for each crate:
 
-    Proof           the crate
-    Tests           its #[test] functions, with the crate once more
-    Second proof    the crate once more, for the edits to begin with. A crate with a single edit has none
-    Edits           the edits that must be refused
-    Programs        what two compilers make of a proved program
+    Proof       the crate
+    Tests       its #[test] functions, with the crate once more
+    Mutants     its mutants, which must be refused, and what the functions that they change call
+    Programs    what two compilers make of a proved program
 
 A last row has what is in no other: the programs that run, Python's tests, compilers of other languages, and rt itself. The line below
 has the whole time, as the system counts it when the run has ended, the clock, the processors, and the load of the machine before.
@@ -29,7 +28,7 @@ from pathlib import Path
 
 ROOT = Path(__file__).resolve().parent.parent
 TICKS = os.sysconf("SC_CLK_TCK")
-PARTS = ["Proof", "Tests", "Second proof", "Edits", "Programs"]
+PARTS = ["Proof", "Tests", "Mutants", "Programs"]
 
 
 def work_of(words, folder):
@@ -37,9 +36,8 @@ def work_of(words, folder):
     if not words or os.path.basename(words[0]) != "rattle" or "--crate-name" not in words:
         return None
     crate = words[words.index("--crate-name") + 1]
-    if os.path.basename(folder).startswith("rt-edit-"):
-        begun = words[words.index("--incremental") + 1] if "--incremental" in words else ""
-        return crate, "Second proof" if os.path.basename(begun) == "seed" else "Edits"
+    if os.path.basename(folder).startswith("mutants-"):
+        return crate, "Mutants"
     if "--test" in words:
         return crate, "Tests"
     return crate, "Programs" if "--crate-checked" in words else "Proof"

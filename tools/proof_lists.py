@@ -27,7 +27,7 @@ def laws_of(crate):
 
 def mutants_of(crate):
     """The names of the crate's mutants: those that the test command tries, and those that it does not."""
-    tried = sorted(path.stem for path in (ROOT / "crates" / crate / "must-fail").glob("*.edit"))
+    tried = sorted(path.stem for path in (ROOT / "tests" / "must-fail" / crate).glob("*.edit"))
     others = sorted(path.stem for path in (ROOT / "tools" / "edits" / crate).glob("*.edit"))
     return tried, others
 
