@@ -165,12 +165,21 @@ def goes_on_where_each_allocation_is_refused(scratch):
     return f"{count} allocations"
 
 
+def lets_all_end_where_no_memory_is_left(scratch):
+    reported = run([built(scratch, "cc", C_FLAGS, C_SOURCES / "growths.c", WRAPS)])
+    once, oldest, newest, cuts, cuts_for_good = (int(line.split()[0]) for line in reported.splitlines())
+    if not (once == oldest == newest > 0 and cuts == cuts_for_good > 0):
+        raise Differs(f"what fails: {reported}")
+    return f"{once} events, {cuts} cuts"
+
+
 def is_clean_under_sanitizers(scratch):
     if not can(scratch, "cc", SANITIZERS):
         return "left out: cc has no sanitizers here"
     c = BINDINGS / "c"
     plain = (c / "bank.c", c / "transfers.c", c / "threads.c", C_SOURCES / "calls.c", C_SOURCES / "own_access.c")
-    for source, extra in ((c / "refused.c", WRAPS), *((source, []) for source in plain)):
+    failing = (c / "refused.c", C_SOURCES / "growths.c")
+    for source, extra in (*((source, WRAPS) for source in failing), *((source, []) for source in plain)):
         run([built(scratch, "cc", C_FLAGS, source, SANITIZERS + extra)])
     return None
 
@@ -865,6 +874,7 @@ CASES = [
     reports_the_status_of_each_call,
     reports_what_callers_decide,
     goes_on_where_each_allocation_is_refused,
+    lets_all_end_where_no_memory_is_left,
     is_clean_under_sanitizers,
     reports_the_story_in_cpp,
     reports_the_story_in_rust,

@@ -366,6 +366,28 @@ static void a_journal_is_run_again(void)
     sgt_close(&other);
 }
 
+/* The part after a cut begins without what was removed, with what callers wrote in place of it. */
+static void a_cut_forgets_what_was_removed(void)
+{
+    sgt_engine engine = {0};
+    sgt_reply reported = {0};
+    uint64_t live = 0, count = 0;
+    int64_t value = 0;
+    opens(&engine);
+    uint32_t tid = begins(&engine);
+    CHECK(writes(&engine, tid, 7, 9, 500) && removes(&engine, tid, 1, 101) && reads_none(&engine, tid, 1, 101) && commits(&engine, tid));
+    CHECK(sgt_start(&engine, 1, deposit, 2, &reported) == 0 && reported.kind == 1);
+    for (tid = reported.tid; sgt_step(&engine, tid, &reported) == 0 && reported.kind != 10;) {}
+    CHECK(reads(&engine, tid, 7, 9, 500) && writes(&engine, tid, 7, 9, 510));
+    CHECK(sgt_commit(&engine, tid, &reported) == 0 && reported.kind == 13 && reported.answer[0] == 1100);
+    CHECK(sgt_cut(&engine, &live) == 0 && sgt_records(&engine, &count) == 0 && count == 6);
+    CHECK(sgt_get(&engine, 1, 101, &value) == 4 && sgt_get(&engine, 7, 9, &value) == 0 && value == 510);
+    CHECK(begins(&engine) == 0 && reads_none(&engine, 0, 1, 101) && reads(&engine, 0, 7, 9, 510) && removes(&engine, 0, 7, 9) && commits(&engine, 0));
+    CHECK(sgt_get(&engine, 7, 9, &value) == 4 && sgt_records(&engine, &count) == 0 && count == 5);
+    CHECK(sgt_cut(&engine, &live) == 0 && sgt_records(&engine, &count) == 0 && count == 5 && sgt_get(&engine, 2, 101, &value) == 0 && value == 1100);
+    sgt_close(&engine);
+}
+
 static void replies_are_spelled(void)
 {
     sgt_reply reported = {.kind = 9, .table = 2, .number = 101, .found = 0, .value = 5};
@@ -389,6 +411,7 @@ int main(void)
     entries_have_accesses();
     accesses_are_listed();
     a_journal_is_run_again();
+    a_cut_forgets_what_was_removed();
     replies_are_spelled();
     printf("%d checks, %d failed\n", checks, failed);
     return failed != 0;

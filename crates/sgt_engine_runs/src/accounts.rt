@@ -3,35 +3,12 @@
 use sgt_access::Accesses;
 use sgt_engine::Engine;
 use sgt_graph::Graph;
-use sgt_model::{Asks, Key, Limits};
+use sgt_model::{Key, Limits};
 use sgt_records::Records;
 use sgt_smallbank::{Account, opening, procedures};
 use std::alloc::Global;
 use std::io;
 use std::io::Print;
-
-/// Two accounts, for short runs.
-pub const ACCOUNTS: [Account; 2] = [
-    Account {
-        name: 1,
-        customer: 101,
-        saving: 500,
-        checking: 1000,
-    },
-    Account {
-        name: 2,
-        customer: 102,
-        saving: 0,
-        checking: 200,
-    },
-];
-
-/// The limits of these runs.
-pub const LIMITS: Limits = Limits {
-    live: 8,
-    begins: 100,
-    asks: Asks::AtStep,
-};
 
 /// An engine over any implementations of the layers, with SmallBank's procedures, these accounts and no event yet. None
 /// if an allocation failed.

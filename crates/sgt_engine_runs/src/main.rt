@@ -1,18 +1,15 @@
 //! Runs events on an engine of SmallBank, for the test command and the measurements in `bench`. Its only argument
 //! selects the run:
 //!
-//!     sgt_engine_runs again, oldest, newest or cut    a row's events, with failed allocations
-//!     sgt_engine_runs drawn                           10,000 random events, over other implementations of the layers too
-//!     sgt_engine_runs callers                         callers' own accesses, a removal among them, and a cut
-//!     sgt_engine_runs EVENTS                          this many events, in memory that does not grow with them
+//!     sgt_engine_runs drawn     10,000 random events, over other implementations of the layers too
+//!     sgt_engine_runs EVENTS    this many events, in memory that does not grow with them
 //!
-//! Without an argument it makes four runs, one after another: `again`, `drawn`, one of 250,000 events, and `callers`.
-//! `stdout` has the expected output of these. In a drawn run, the next event depends on a generated number and on the live
-//! transactions. So the run is the same each time, and one wrong reply changes what comes after it.
+//! Without an argument it makes two runs, one after the other: `drawn`, and one of 250,000 events. `stdout` has the expected
+//! output of these. In a drawn run, the next event depends on a generated number and on the live transactions. So the run
+//! is the same each time, and one wrong reply changes what comes after it.
 #![tactic(auto)]
 
 mod accounts;
-mod callers;
 mod counts;
 mod digest;
 mod drawn;
@@ -21,14 +18,9 @@ mod endless;
 mod events;
 mod list_runs;
 mod refusals;
-mod row;
-mod run;
 
-use crate::callers::run_callers;
 use crate::endless::run_endless;
 use crate::list_runs::run_drawn;
-use crate::row::{Plan, run_plan};
-use crate::run::Order;
 use std::alloc::AllocGlobal;
 use std::io::Print;
 use std::{env, io};
@@ -36,27 +28,18 @@ use std::{env, io};
 /// Makes the run of this argument.
 fn run_named(rt: &(impl AllocGlobal + Print), word: &str) -> io::Result<()> {
     match word {
-        "again" => run_plan(rt, Plan::Again),
-        "cut" => run_plan(rt, Plan::Cut),
-        "oldest" => run_plan(rt, Plan::Quit(Order::Oldest)),
-        "newest" => run_plan(rt, Plan::Quit(Order::Newest)),
         "drawn" => run_drawn(rt),
-        "callers" => run_callers(rt),
         _ => match word.parse::<u64>() {
             Ok(events) => run_endless(rt, events),
-            Err(_) => println!(rt;
-                "usage: sgt_engine_runs [again|oldest|newest|cut|drawn|callers|EVENTS]"
-            ),
+            Err(_) => println!(rt; "usage: sgt_engine_runs [drawn|EVENTS]"),
         },
     }
 }
 
 /// The runs of the test command.
 fn run_all(rt: &(impl AllocGlobal + Print)) -> io::Result<()> {
-    run_plan(rt, Plan::Again)?;
     run_drawn(rt)?;
-    run_endless(rt, 250_000)?;
-    run_callers(rt)
+    run_endless(rt, 250_000)
 }
 
 fn main(rt: HostRuntime) -> io::Result<()> {
