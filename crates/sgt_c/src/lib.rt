@@ -1,5 +1,5 @@
-//! The engine of the program, for C and for languages that call C. `bindings/build` makes the static library, which has
-//! a function for C for each one of this crate, and that calls it.
+//! The engine of the program, for C and for languages that call C. `bindings/build` makes the static library: for each
+//! function of this crate it exports one, which calls it.
 //!
 //! C keeps an engine in a handle, [`Handle`]. It is all zero bytes before `sgt_open` and after `sgt_close`. Each call
 //! returns a status. The reply to an event is written into an [`SgtReply`], the `sgt_reply` of `sgt.h`. A refusal such
