@@ -33,6 +33,8 @@ PARTS = ("src", "specs", "proofs")
 NOT_PROVED = re.compile(r"fn \w+::(\S+): (?:not proved|no proof: .*`search` did not prove)")
 # A goal that stays open, at a place of src or in a function's proof.
 OPEN = re.compile(r"(?:note: )?(?:\./)?(?:(src/\S+?):(\d+):\d+: it is not proved that|proofs/(\S+)/\w+\.antt:\d+:\d+: error)")
+# A file that does not compile.
+BROKEN = re.compile(r"(src/\S+?):\d+:\d+: error\[")
 # What a proof file is told that names what an edit took away.
 LOST_NAME = re.compile(r"(?:\./)?proofs/.*(?:has no field|is not in scope|has no `|was not admitted)")
 
@@ -128,21 +130,25 @@ class Bench:
         return said.verdict()
 
     def attempt_together(self, edits):
-        """Tries in one check as many of the mutants as change different functions. Those that are refused, with the words for each.
+        """Tries in one check as many of the mutants as change different functions. Whether these are refused, and the words for it.
 
-        A function that calls one which is not proved has no verdict of its own, so a mutant that is left out may be refused all the same."""
+        Some are left out: a function that calls one which is not proved may have no verdict of its own."""
         texts, together, busy = {}, {}, set()
         for edit in edits:
             with suppress(ValueError):
                 changed, functions = applied(edit, self.crate, texts)
                 if functions and busy.isdisjoint(functions):
-                    texts, together[edit] = changed, functions
+                    together[edit] = functions, {path for path in changed if changed[path] != texts.get(path)}
+                    texts = changed
                     busy.update(functions)
         if len(together) < 2:
             return {}
         said = self.check(texts, sorted(busy))
-        found = {edit: self.refusal(functions, said, texts) for edit, functions in together.items()}
-        return {edit: words for edit, words in found.items() if words}
+        broken = {found[1] for found in map(BROKEN.match, said.lines) if found}
+        if broken:
+            return {edit: self.attempt(edit) for edit, (_, paths) in together.items() if paths & broken}
+        found = {edit: self.refusal(functions, said, texts) for edit, (functions, _) in together.items()}
+        return {edit: (True, words) for edit, words in found.items() if words}
 
     def refusal(self, functions, said, texts):
         """The words for a mutant that changes these functions, if one of them is refused with an open goal of its own."""
@@ -168,7 +174,7 @@ def try_crate(edits, used):
     with tempfile.TemporaryDirectory(prefix=f"mutants-{edits.name}-") as made:
         bench = Bench(Path(made), edits.name, used)
         while left:
-            tried = {edit: (True, words) for edit, words in bench.attempt_together(left).items()} or {left[0]: bench.attempt(left[0])}
+            tried = bench.attempt_together(left) or {left[0]: bench.attempt(left[0])}
             for edit, (is_refused, words) in tried.items():
                 print(f"{edits.name}/{edit.stem}: {words}", flush=True)
                 found[edits.name, edit.stem] = is_refused
