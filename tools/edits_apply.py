@@ -40,7 +40,7 @@ def function_at(path, text, place):
     methods = [*METHODS.finditer(text, 0, heads[-1].start())]
     if indent and methods:
         of_trait, kind = methods[-1].groups()
-        return f"{kind}{of_trait or ''}::{name}"
+        return f"{kind[0].upper()}{kind[1:]}{of_trait or ''}::{name}"
     return f"{module_of(path)}::{name}".removeprefix("::")
 
 

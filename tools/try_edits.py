@@ -33,8 +33,8 @@ PARTS = ("src", "specs", "proofs")
 NOT_PROVED = re.compile(r"fn \w+::(\S+): (?:not proved|no proof: .*`search` did not prove)")
 # A goal that stays open, at a place of src or in a function's proof.
 OPEN = re.compile(r"(?:note: )?(?:\./)?(?:(src/\S+?):(\d+):\d+: it is not proved that|proofs/(\S+)/\w+\.antt:\d+:\d+: error)")
-# A file that does not compile.
-BROKEN = re.compile(r"(src/\S+?):\d+:\d+: error\[")
+# A file that does not compile, or a name that fits no function, or several.
+BROKEN = re.compile(r"(src/\S+?):\d+:\d+: error\[|rattle: error: .*? `([\w:]+)`: help")
 # What a proof file is told that names what an edit took away.
 LOST_NAME = re.compile(r"(?:\./)?proofs/.*(?:has no field|is not in scope|has no `|was not admitted)")
 
@@ -144,9 +144,9 @@ class Bench:
         if len(together) < 2:
             return {}
         said = self.check(texts, sorted(busy))
-        broken = {found[1] for found in map(BROKEN.match, said.lines) if found}
+        broken = {found[1] or found[2] for found in map(BROKEN.match, said.lines) if found}
         if broken:
-            return {edit: self.attempt(edit) for edit, (_, paths) in together.items() if paths & broken}
+            return {edit: self.attempt(edit) for edit, (functions, paths) in together.items() if broken & {*functions, *paths}}
         found = {edit: self.refusal(functions, said, texts) for edit, (functions, _) in together.items()}
         return {edit: (True, words) for edit, words in found.items() if words}
 
