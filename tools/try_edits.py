@@ -14,7 +14,7 @@ It takes the libraries of the crates below as `rt ci` left them; `rt lib` makes 
 line counts the mutants, and the status is 1 where one is not refused.
 
 Each mutant of tools/edits that was refused gets a line in tools/edits/TRIED: its crate, its name, and the commit at which it was tried. A
-commit ends in `+` where the crates or the mutants differed from it. One that was tried and not refused loses its line.
+commit ends in `+` where the crates or the mutants differed from it. One that the prover does not refuse loses its line.
 """
 import os
 import re
@@ -22,6 +22,7 @@ import shutil
 import subprocess
 import sys
 import tempfile
+import threading
 from concurrent.futures import ThreadPoolExecutor
 from contextlib import suppress
 from pathlib import Path
@@ -30,6 +31,8 @@ from edits_apply import CRATES, EDITS, IN_TEST, ROOT, TRIED, applied, function_a
 
 KIT = Path(os.path.realpath(shutil.which("rt") or "rt")).parent.parent
 PARTS = ("src", "specs", "proofs")
+# Set once somebody interrupts: no further mutant is tried then.
+INTERRUPTED = threading.Event()
 NOT_PROVED = re.compile(r"fn \w+::(\S+): (?:not proved|no proof: .*`search` did not prove)")
 # A goal that stays open, at a place of src or in a function's proof.
 OPEN = re.compile(r"(?:note: )?(?:\./)?(?:(src/\S+?):(\d+):\d+: it is not proved that|proofs/(\S+)/\w+\.antt:\d+:\d+: error)")
@@ -76,11 +79,11 @@ class Answer:
         self.open_goals = [found for found in map(OPEN.match, self.lines) if found and not LOST_NAME.match(found.string)]
 
     def verdict(self):
-        """Whether a mutant that was tried by itself is refused, and the words for it."""
+        """Whether a mutant that was tried by itself is refused, and the words for it. None if the prover gave no verdict."""
         if self.status == 0:
             return False, "NOT REFUSED: the crate is still proved"
         if self.status != 1 or not self.refused:
-            return False, "NOT TRIED: " + " | ".join(self.lines[-12:])
+            return None, f"NOT TRIED: status {self.status}: " + " | ".join(self.lines[-12:])
         if not self.open_goals:
             return False, "REFUSED BY A NAME ALONE: a proof file names what the edit took away, so this says nothing of the contract"
         return True, words_for(self.refused, self.open_goals[0])
@@ -120,7 +123,7 @@ class Bench:
         try:
             texts, functions = applied(edit, self.crate)
         except ValueError as why:
-            return False, f"DOES NOT APPLY: {why}"
+            return None, f"DOES NOT APPLY: {why}"
         said = self.check(texts, functions)
         if functions and said.status == 2:
             # A name fits no function, or several.
@@ -168,18 +171,17 @@ class Bench:
         return function_at(path, text, len("".join(text.splitlines(True)[: int(row) - 1])))
 
 
-def try_crate(edits, used):
-    """Tries the mutants of a crate's folder, prints what came of each, and returns whether it was refused, by their names."""
-    found, left = {}, sorted(edits.glob("*.edit"))
+def try_crate(edits, used, found):
+    """Tries the mutants of a crate's folder, prints what came of each, and notes in `found` whether it was refused."""
+    left = sorted(edits.glob("*.edit"))
     with tempfile.TemporaryDirectory(prefix=f"mutants-{edits.name}-") as made:
         bench = Bench(Path(made), edits.name, used)
-        while left:
+        while left and not INTERRUPTED.is_set():
             tried = bench.attempt_together(left) or {left[0]: bench.attempt(left[0])}
             for edit, (is_refused, words) in tried.items():
                 print(f"{edits.name}/{edit.stem}: {words}", flush=True)
                 found[edits.name, edit.stem] = is_refused
             left = [it for it in left if it not in tried]
-    return found
 
 
 def git(*words):
@@ -199,9 +201,10 @@ def record(found, at):
         crate, name, _ = line.split(" ")
         lines[crate, name] = line
     for (crate, name), is_refused in found.items():
-        lines.pop((crate, name), None)
         if is_refused:
             lines[crate, name] = f"{crate} {name} {at}"
+        elif is_refused is False:
+            lines.pop((crate, name), None)
     there = [line for (crate, name), line in sorted(lines.items()) if (EDITS / crate / f"{name}.edit").is_file()]
     TRIED.write_text("".join(f"{line}\n" for line in there), encoding="utf-8")
 
@@ -221,13 +224,18 @@ def main(words):
         make_libraries(uses[name])
     found = {}
     with ThreadPoolExecutor(int(os.environ.get("RT_JOBS", os.cpu_count() or 1))) as pool:
-        for tried in pool.map(lambda name: try_crate(there[name], uses[name]), chosen):
-            found.update(tried)
+        try:
+            for _ in pool.map(lambda name: try_crate(there[name], uses[name], found), chosen):
+                pass
+        except KeyboardInterrupt:
+            INTERRUPTED.set()
     if not in_test:
         record(found, at)
-    failed = [*found.values()].count(False)
-    print(f"{len(found) - failed} passed, {failed} failed")
-    return 1 if failed else 0
+    if INTERRUPTED.is_set():
+        return 130
+    passed = [*found.values()].count(True)
+    print(f"{passed} passed, {len(found) - passed} failed")
+    return 1 if passed < len(found) else 0
 
 
 if __name__ == "__main__":
