@@ -19,8 +19,7 @@ CRATES = ROOT / "crates"
 EDITS = ROOT / "tools" / "edits"
 IN_TEST = ROOT / "tests" / "must-fail"
 TRIED = EDITS / "TRIED"
-
-
+# The head of a function, and that of the impl which a method stands in.
 FUNCTION = re.compile(r"^( *)(?:pub(?:\(\w+\))? )?(?:const )?fn (\w+)", re.MULTILINE)
 METHODS = re.compile(r"^impl(?:<[^>]*>)? (?:(\w+)(?:<.*>)? for )?&?(\w+)", re.MULTILINE)
 
@@ -45,8 +44,8 @@ def function_at(path, text, place):
 
 
 def applied(edit, crate, changed=None):
-    """The texts of the files that a mutant changes, by their paths, and the functions. It is applied to a crate, or to `changed` texts of
-    it. An error says why it does not apply."""
+    """The texts of the files that a mutant changes, by their paths, and the functions, "" for what is in none. It is applied to a crate, or
+    to `changed` texts of it. An error says why it does not apply."""
     path, old, texts, functions, is_changed = None, None, dict(changed or {}), set(), False
     for line in edit.read_text(encoding="utf-8").split("\n"):
         if line.startswith("file: "):
@@ -67,12 +66,11 @@ def applied(edit, crate, changed=None):
                 raise ValueError(f"{path} has {found} times the text {old}")
             place = texts[path].index(old)
             texts[path] = texts[path].replace(old, line.removeprefix("new:").removeprefix(" "))
-            if path.startswith("src/"):
-                functions.add(function_at(path, texts[path], place))
+            functions.add(function_at(path, texts[path], place) if path.startswith("src/") else "")
             old, is_changed = None, True
     if not is_changed:
         raise ValueError("it has no pair of `old:` and `new:` lines")
-    return texts, sorted(functions - {""})
+    return texts, functions
 
 
 def lost_lines():

@@ -121,9 +121,10 @@ class Bench:
     def attempt(self, edit):
         """Tries a mutant by itself. Whether it is refused, and the words for it."""
         try:
-            texts, functions = applied(edit, self.crate)
+            texts, places = applied(edit, self.crate)
         except ValueError as why:
             return None, f"DOES NOT APPLY: {why}"
+        functions = sorted(places - {""})
         said = self.check(texts, functions)
         if functions and said.status == 2:
             # A name fits no function, or several.
@@ -135,12 +136,13 @@ class Bench:
     def attempt_together(self, edits):
         """Tries in one check as many of the mutants as change different functions. Whether these are refused, and the words for it.
 
-        Some are left out: a function that calls one which is not proved may have no verdict of its own."""
+        Some are left out: a function that calls one which is not proved may have no verdict of its own. One that changes more than bodies,
+        as an import or a type, is not tried beside others, whose functions it could break."""
         texts, together, busy = {}, {}, set()
         for edit in edits:
             with suppress(ValueError):
                 changed, functions = applied(edit, self.crate, texts)
-                if functions and busy.isdisjoint(functions):
+                if "" not in functions and busy.isdisjoint(functions):
                     together[edit] = functions, {path for path in changed if changed[path] != texts.get(path)}
                     texts = changed
                     busy.update(functions)
