@@ -39,7 +39,7 @@ OPEN = re.compile(r"(?:note: )?(?:\./)?(?:(src/\S+?):(\d+):\d+: it is not proved
 # A file that does not compile, or a name that fits no function, or several.
 BROKEN = re.compile(r"(src/\S+?):\d+:\d+: error\[|rattle: error: .*? `([\w:]+)`: help")
 # What a proof file is told that names what an edit took away.
-LOST_NAME = re.compile(r"(?:\./)?proofs/.*(?:has no field|is not in scope|has no `|was not admitted)")
+LOST_NAME = re.compile(r"(?:\./)?proofs/.*(?:has no field|is not in scope|has no `|was not admitted|\(nearest: )")
 
 
 def libraries():
@@ -136,8 +136,8 @@ class Bench:
     def attempt_together(self, edits):
         """Tries in one check as many of the mutants as change different functions. Whether these are refused, and the words for it.
 
-        Some are left out: a function that calls one which is not proved may have no verdict of its own. One that changes more than bodies,
-        as an import or a type, is not tried beside others, whose functions it could break."""
+        Some are tried again, each by itself: a function that calls one which is not proved may have no verdict of its own. One that changes
+        more than bodies, as an import or a type, is not tried beside others, whose functions it could break."""
         texts, together, busy = {}, {}, set()
         for edit in edits:
             with suppress(ValueError):
@@ -153,7 +153,7 @@ class Bench:
         if broken:
             return {edit: self.attempt(edit) for edit, (functions, paths) in together.items() if broken & {*functions, *paths}}
         found = {edit: self.refusal(functions, said, texts) for edit, (functions, _) in together.items()}
-        return {edit: (True, words) for edit, words in found.items() if words}
+        return {edit: (True, words) if words else self.attempt(edit) for edit, words in found.items()}
 
     def refusal(self, functions, said, texts):
         """The words for a mutant that changes these functions, if one of them is refused with an open goal of its own."""
@@ -170,7 +170,11 @@ class Bench:
         if folder:
             return folder.replace("/", "::")
         text = texts.get(path) or (self.crate / path).read_text(encoding="utf-8")
-        return function_at(path, text, len("".join(text.splitlines(True)[: int(row) - 1])))
+        lines, before = text.splitlines(True), int(row) - 1
+        # A goal of a whole function is placed at its first attribute.
+        while lines[before].lstrip().startswith(("#[", "//")):
+            before += 1
+        return function_at(path, text, len("".join(lines[:before])))
 
 
 def try_crate(edits, used, found):

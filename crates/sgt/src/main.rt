@@ -172,7 +172,7 @@ const RUN_OPTIONS: [(&str, &[&str]); 6] = [
 ];
 
 /// An option that excludes others.
-fn run_option<'a>(
+fn excluding_option<'a>(
     alloc: Global,
     name: &'a str,
     help: &'a str,
@@ -194,7 +194,7 @@ fn add_run_options<'a>(
     options.push(most_option(alloc))?;
     for place in 0..RUN_OPTIONS.len() {
         let (name, others) = RUN_OPTIONS[place];
-        options.push(run_option(alloc, name, helps[place], others)?)?;
+        options.push(excluding_option(alloc, name, helps[place], others)?)?;
         if name == "explain" {
             options.push(words_option(alloc)?)?;
         }
@@ -285,39 +285,42 @@ fn level_option<'a>(alloc: Global) -> Arg<'a> {
         .hide_possible_values(true)
 }
 
+/// The options of `sgt check` without a value, each with those before it that it excludes.
+const CHECK_OPTIONS: [(&str, &[&str]); 5] = [
+    ("graph", &[]),
+    ("timeline", &["graph"]),
+    ("all", &[]),
+    ("json", &["graph", "timeline"]),
+    ("strict", &[]),
+];
+
+/// Adds these options, with their help texts.
+fn add_check_options<'a>(
+    alloc: Global,
+    options: &mut Vec<Arg<'a>>,
+    helps: [&'a str; 5],
+) -> Result<(), AllocError> {
+    for place in 0..CHECK_OPTIONS.len() {
+        let (name, others) = CHECK_OPTIONS[place];
+        options.push(excluding_option(alloc, name, helps[place], others)?)?;
+    }
+    Ok(())
+}
+
 /// The options of `sgt check`.
 fn check_options<'a>(alloc: Global) -> Result<Vec<Arg<'a>>, AllocError> {
     let mut options = Vec::new(alloc);
-    options.push(flag(
+    add_check_options(
         alloc,
-        "graph",
-        "Writes the serialization graph in DOT, instead of the report",
-    ))?;
-    options.push(flag(
-        alloc,
-        "timeline",
-        "Writes a picture of the history in SVG, instead of the report",
-    )
-    .conflicts_with("graph")?)?;
-    options.push(flag(
-        alloc,
-        "all",
-        "Draws up to 400 operations of a history, not 60 (--timeline only)",
-    ))?;
-    options.push(
-        flag(
-            alloc,
-            "json",
+        &mut options,
+        [
+            "Writes the serialization graph in DOT, instead of the report",
+            "Writes a picture of the history in SVG, instead of the report",
+            "Draws up to 400 operations of a history, not 60 (--timeline only)",
             "Writes the report as one object of JSON (list-append only)",
-        )
-        .conflicts_with("graph")?
-        .conflicts_with("timeline")?,
+            "The serial order has to keep real time (list-append only)",
+        ],
     )?;
-    options.push(flag(
-        alloc,
-        "strict",
-        "The serial order has to keep real time (list-append only)",
-    ))?;
     options.push(level_option(alloc))?;
     options.push(model_option(alloc))?;
     Ok(options)

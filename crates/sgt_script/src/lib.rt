@@ -18,6 +18,7 @@ mod coded;
 mod explainer;
 mod json_answer;
 mod last_line;
+mod laws;
 mod live_text;
 mod observer;
 mod options;

@@ -18,23 +18,19 @@ ghost use Rattle.sgt_script.specs.Outcomes.{CountsReads, CountsWrites, IsCutOff,
 
 use crate::json_answer::{append_cut_json, append_reply_json, append_still_live_json};
 use crate::last_line::{copy_of_last, keep_if};
+use crate::laws::outputs_obey_laws;
 use crate::observer::Observer;
 use crate::output::Output;
 use json::Scratch;
-use sgt_assembly::{SgtEngine, open_engine, opened_hold_values};
+use sgt_assembly::{SgtEngine, open_engine};
 use sgt_engine::CutError;
 use sgt_format::{
     LineKind, Opening, ScriptLine, append_cut, append_database, append_records, append_short_reply,
     append_still_live, read_event_ahead, read_script_line,
 };
 use sgt_input::{Fault, Lines, Sink, Source, at_line, opening_of, read_records, write_all};
-use sgt_model::{
-    Entry, Event, NoMemory, ShortReply, Tid, headline_holds, histories_go_on, replays_hold_values,
-    some_reply_is_legal,
-};
-use sgt_notation::{append_cut_comment, append_operations, transcripts_spell_textbooks};
-use sgt_smallbank::replay_is_bank;
-use sgt_textbook::{legal_are_commit_ordered, legal_are_recoverable, legal_are_serializable};
+use sgt_model::{Entry, Event, NoMemory, ShortReply, Tid, histories_go_on, some_reply_is_legal};
+use sgt_notation::{append_cut_comment, append_operations};
 use std::alloc::Global;
 
 /// For how many bytes of answers memory is allocated at once: more than the lines of one read mostly get.
@@ -559,17 +555,7 @@ pub(crate) fn run_observed<S: Source, T: Sink, X: Observer>(
     ensures reads { CountsReads result (S.failures source.old) (S.failures source.new) }
     ensures writes { CountsWrites result (T.failures sink.old) (T.failures sink.new) }
 {
-    // The headline holds for each legal history.
-    headline_holds();
-    // The textbook's classes contain it, and its text spells the textbook's operations.
-    legal_are_commit_ordered();
-    legal_are_serializable();
-    legal_are_recoverable();
-    transcripts_spell_textbooks();
-    // Each of SmallBank's procedures does the bank's arithmetic, if its part started with values.
-    opened_hold_values();
-    replays_hold_values();
-    replay_is_bank();
+    outputs_obey_laws();
     let (mut lines, opening) = open_input(alloc, source, most, line)?;
     let opening = match read_records(alloc, &mut lines, source, opening) {
         Ok(opening) => opening,

@@ -11,6 +11,8 @@ mod failures;
 #[cfg(test)]
 mod first_use;
 #[cfg(test)]
+mod mixed;
+#[cfg(test)]
 mod schedulers;
 #[cfg(test)]
 mod trees;

@@ -26,9 +26,9 @@ returns-in-Err-clause-script g c = λ exact.
 
 pub returns-clause-script : goal.returns-clause-script
 returns-clause-script g c = λ exact.
-    with-laws c.headline_holds.ensures c.opened_hold_values.ensures c.replays_hold_values.ensures.committed
-    c.replay_is_bank.ensures.replay c.legal_are_commit_ordered.ensures c.legal_are_serializable.ensures
-    c.legal_are_recoverable.ensures c.transcripts_spell_textbooks.ensures c.args.output c.args.most (g.S.Source.rest c.args.source.now)
+    with-laws c.outputs_obey_laws.ensures.headline c.outputs_obey_laws.ensures.opened c.outputs_obey_laws.ensures.committed
+    c.outputs_obey_laws.ensures.bank c.outputs_obey_laws.ensures.ordered c.outputs_obey_laws.ensures.serializable
+    c.outputs_obey_laws.ensures.recoverable c.outputs_obey_laws.ensures.spell c.args.output c.args.most (g.S.Source.rest c.args.source.now)
     (g.T.Sink.held c.args.sink.now) (g.T.Sink.held c.run_opened-ran.new.sink) c.run_opened-ran.result
     (wrote-opened c.args.output c.args.most (configuration_of c.in_ok-engine.engine) (g.S.Source.rest c.args.source.now)
     (g.T.Sink.held c.args.sink.now) (g.T.Sink.held c.run_opened-ran.new.sink) c.in_ok-lines.lines.line
