@@ -1,12 +1,13 @@
 #!/usr/bin/env python3
-"""Measures durable payments: examples/payments by each journal, beside SQLite behind the same server, and PostgreSQL. It takes four minutes.
+"""Measures durable payments: examples/payments by each journal, beside SQLite behind the same server, and PostgreSQL. It takes five minutes.
 
-    bench/payments/run.py [ROUNDS [SECONDS]] [file] [SQLite] [Redis] [etcd] [PostgreSQL] [cut]
+    bench/payments/run.py [ROUNDS [SECONDS]] [file] [partitions] [SQLite] [Redis] [etcd] [PostgreSQL] [cut]
 
-1, 8 and 64 clients pay in a closed loop over 1000 accounts, and 8 in lists of 100. The contestants take turns, ROUNDS times (2), each for
-SECONDS (3), as the machine's speed changes. Tables of medians are printed: payments a second, with the least and the greatest; the median
-latency; and what a payment takes of the processors: of the server's process, which is the only one that runs payments, of its fronts, of
-the generator of load, one thread (load.c) or two (pgbench), and of the Redis or the three nodes of etcd, which are on this machine too.
+1, 8 and 64 clients pay in a closed loop over 1000 accounts, and 8 in lists of 100. With partitions the clients are shared out among 2 or 4
+servers, each with 1000 accounts and a journal of its own, and no payment is between two. The contestants take turns, ROUNDS times (2), each
+for SECONDS (3), as the machine's speed changes. Tables of medians are printed: payments a second, with the least and the greatest; the
+median latency; and what a payment takes of the processors: of the servers' processes, which alone run payments, of their fronts, of the
+generators of load, each one thread (load.c) or two (pgbench), and of the Redis or the three nodes of etcd, which are on this machine too.
 At last a server with RECORDS records, which forgets old ids, is loaded by 64 clients until it has cut its history: the longest reply. With
 names of contestants only those run, and the cut only if it is named, too.
 
@@ -41,7 +42,8 @@ CLIENTS = (1, 8, 64)
 LISTS = "8 in lists of 100"
 CENTS = 100_000_000
 RECORDS, UNTIL_CUT = 5_000_000, 60  # the seconds at most until the history is cut
-NAMES = [word for word in sys.argv[1:] if not word.isdigit()] or ["file", "SQLite", "Redis", "etcd", "PostgreSQL", "cut"]
+PARTITIONS = (2, 4)
+NAMES = [word for word in sys.argv[1:] if not word.isdigit()] or ["file", "partitions", "SQLite", "Redis", "etcd", "PostgreSQL", "cut"]
 RATE, LATENCY, TIME = "Payments a second", "Median latency, ms", "Processor time a payment, microseconds"
 reported: dict = {}  # by what is measured, contestant and clients
 
@@ -74,28 +76,39 @@ def fsyncs(scratch):
     note("An fsync of 60 bytes, microseconds", "the disk", 1, statistics.median(times))
 
 
-def served(name, python, load, seconds, *words, others=()):
-    """Loads a server, which says its port when it serves. Others are processes that work for it."""
-    process = subprocess.Popen([python, *map(str, words)], stdout=subprocess.PIPE, text=True)
-    port = re.search(r"port (\d+)", process.stdout.readline())[1]
-    fronts = pathlib.Path(f"/proc/{process.pid}/task/{process.pid}/children").read_text().split()
-    parts = {"server": [process.pid], "fronts": fronts, **({"journal's processes": others} if others else {})}
+def served(name, python, load, seconds, *servers, others=()):
+    """Loads servers at the same time, the clients shared out among them. A server is the words of its command; it says its port when it
+    serves. Others are processes that work for them."""
+    processes = [subprocess.Popen([python, *map(str, words)], stdout=subprocess.PIPE, text=True) for words in servers]
+    ports = [re.search(r"port (\d+)", process.stdout.readline())[1] for process in processes]
+    pids = [process.pid for process in processes]
+    fronts = [it for pid in pids for it in pathlib.Path(f"/proc/{pid}/task/{pid}/children").read_text().split()]
+    parts = {"server": pids, "fronts": fronts, **({"journal's processes": others} if others else {})}
     for column, clients, payments in (*((clients, clients, 0) for clients in CLIENTS), (LISTS, 8, 100)):
-        command, load_before = [load, port, clients, seconds, 1000, random.randrange(10**6), payments], taken()
-        before = {part: used(processes) for part, processes in parts.items()}
-        ran = subprocess.run([*map(str, command)], capture_output=True, text=True, check=False)
-        if ran.returncode:
-            print(f"{name}, {column}: left out: {ran.stderr.strip() or 'no reply came'}", flush=True)
-            continue
-        rate, latency, *_ = ran.stdout.split()
-        paid = max(1, float(rate) * seconds)
-        note(RATE, name, column, float(rate))
-        note(LATENCY, name, column, float(latency))
-        for part, processes in parts.items():
-            note(TIME, f"{name}: {part}", column, (used(processes) - before[part]) / paid * 1e6)
-        note(TIME, f"{name}: load", column, (taken() - load_before) / paid * 1e6)
-    process.kill()
-    process.wait()
+        if clients >= len(ports):
+            load_before, before = taken(), {part: used(it) for part, it in parts.items()}
+            runs = [loading(load, port, clients // len(ports), seconds, random.randrange(10**6), payments) for port in ports]
+            answers = [run.communicate() for run in runs]
+            if any(run.returncode for run in runs):
+                why = " ".join(error.strip() for _, error in answers)
+                print(f"{name}, {column}: left out: {why or 'no reply came'}", flush=True)
+                continue
+            rates, latencies, *_ = zip(*(map(float, text.split()) for text, _ in answers))
+            paid = max(1, sum(rates) * seconds)
+            note(RATE, name, column, sum(rates))
+            note(LATENCY, name, column, statistics.median(latencies))
+            for part, it in parts.items():
+                note(TIME, f"{name}: {part}", column, (used(it) - before[part]) / paid * 1e6)
+            note(TIME, f"{name}: load", column, (taken() - load_before) / paid * 1e6)
+    for process in processes:
+        process.kill()
+        process.wait()
+
+
+def loading(load, port, clients, seconds, seed, payments):
+    """A generator of load that runs: so many clients pay over 1000 accounts, in lists of so many payments if that is not 0."""
+    words = [load, port, clients, seconds, 1000, seed, payments]
+    return subprocess.Popen([*map(str, words)], stdout=subprocess.PIPE, stderr=subprocess.PIPE, text=True)
 
 
 def old_payments(records):
@@ -173,18 +186,21 @@ def take_turn(scratch, python, load, seconds):
     serve = (PAYMENTS / "payments.py", "serve")
     fsyncs(scratch)
     if "file" in NAMES:
-        served("sgt, file", python, load, seconds, *serve, scratch / "file", "--cents", CENTS)
+        served("sgt, file", python, load, seconds, (*serve, scratch / "file", "--cents", CENTS))
+    for count in PARTITIONS if "partitions" in NAMES else ():
+        folders = [scratch / f"partition{number}_of_{count}" for number in range(count)]
+        served(f"sgt, file, {count} partitions", python, load, seconds, *((*serve, it, "--cents", CENTS) for it in folders))
     if "SQLite" in NAMES:
-        served("SQLite behind the same server", python, load, seconds, HERE / "sqlite_queue.py", "serve", scratch / "served.db")
+        served("SQLite behind the same server", python, load, seconds, (HERE / "sqlite_queue.py", "serve", scratch / "served.db"))
     if "Redis" in NAMES and not Redis.missing():
         (scratch / "redis").mkdir()
         with running(Redis, scratch / "redis") as redis:
             words = (*serve, scratch / "by_redis", "--journal", redis.address, "--cents", CENTS)
-            served("sgt, Redis", redis.python, load, seconds, *words, others=[redis.process.pid])
+            served("sgt, Redis", redis.python, load, seconds, words, others=[redis.process.pid])
     if "etcd" in NAMES and not Etcd.missing():
         with running(Etcd, scratch) as etcd:
             words = (*serve, scratch / "by_etcd", "--journal", etcd.address, "--cents", CENTS)
-            served("sgt, etcd", etcd.python, load, seconds, *words, others=[it.pid for it in etcd.processes])
+            served("sgt, etcd", etcd.python, load, seconds, words, others=[it.pid for it in etcd.processes])
 
 
 def shown(values, is_rate):
