@@ -3,11 +3,12 @@
 
     bench/payments/run.py [ROUNDS [SECONDS]] [file] [partitions] [SQLite] [Redis] [etcd] [PostgreSQL] [cut]
 
-1, 8 and 64 clients pay in a closed loop over 1000 accounts, and 8 in lists of 100. With partitions the clients are shared out among 2 or 4
-servers, each with 1000 accounts and a journal of its own, and no payment is between two. The contestants take turns, ROUNDS times (2), each
-for SECONDS (3), as the machine's speed changes. Tables of medians are printed: payments a second, with the least and the greatest; the
-median latency; and what a payment takes of the processors: of the servers' processes, which alone run payments, of their fronts, of the
-generators of load, each one thread (load.c) or two (pgbench), and of the Redis or the three nodes of etcd, which are on this machine too.
+1, 8 and 64 clients pay in a closed loop over 1000 accounts, 8 in lists of 100, and 32 in lists of 140. With partitions the clients are
+shared out among 2 or 4 servers, each with 1000 accounts and a journal of its own, and no payment is between two. The contestants take
+turns, ROUNDS times (2), each for SECONDS (3), as the machine's speed changes. Tables of medians are printed: payments a second, with the
+least and the greatest; the median latency; and what a payment takes of the processors: of the servers' processes, which alone run payments,
+of their fronts, of the generators of load, each one thread (load.c) or two (pgbench), and of the Redis or the three nodes of etcd, which
+are on this machine too.
 At last a server with RECORDS records, which forgets old ids, is loaded by 64 clients until it has cut its history: the longest reply. With
 names of contestants only those run, and the cut only if it is named, too.
 
@@ -39,7 +40,8 @@ from helpers.machines import Etcd, Redis, running  # noqa: E402
 from journal import seal  # noqa: E402
 
 CLIENTS = (1, 8, 64)
-LISTS = "8 in lists of 100"
+# In a closed loop: what the column is called, how many clients there are, and the payments in each list, or 0 if there are none.
+COLUMNS = (*((str(clients), clients, 0) for clients in CLIENTS), ("8 in lists of 100", 8, 100), ("32 in lists of 140", 32, 140))
 CENTS = 100_000_000
 RECORDS, UNTIL_CUT = 5_000_000, 60  # the seconds at most until the history is cut
 PARTITIONS = (2, 4)
@@ -73,7 +75,7 @@ def fsyncs(scratch):
         os.fsync(file)
         times.append((time.perf_counter() - begin) * 1e6)
     os.close(file)
-    note("An fsync of 60 bytes, microseconds", "the disk", 1, statistics.median(times))
+    note("An fsync of 60 bytes, microseconds", "the disk", "1", statistics.median(times))
 
 
 def served(name, python, load, seconds, *servers, others=()):
@@ -84,7 +86,7 @@ def served(name, python, load, seconds, *servers, others=()):
     pids = [process.pid for process in processes]
     fronts = [it for pid in pids for it in pathlib.Path(f"/proc/{pid}/task/{pid}/children").read_text().split()]
     parts = {"server": pids, "fronts": fronts, **({"journal's processes": others} if others else {})}
-    for column, clients, payments in (*((clients, clients, 0) for clients in CLIENTS), (LISTS, 8, 100)):
+    for column, clients, payments in COLUMNS:
         if clients >= len(ports):
             load_before, before = taken(), {part: used(it) for part, it in parts.items()}
             runs = [loading(load, port, clients // len(ports), seconds, random.randrange(10**6), payments) for port in ports]
@@ -173,8 +175,8 @@ class Postgres:
             for clients in CLIENTS:
                 words = ("-h", self.scratch, "-n", "-D", f"has_fee={has_fee}", "--max-tries=100000", "-f", self.scratch / "postgres.pgbench")
                 said = self.run("pgbench", *words, "-c", clients, "-j", min(clients, 2), "-T", seconds, "postgres")
-                note(RATE, name, clients, float(re.search(r"tps = ([\d.]+)", said)[1]))
-                note(LATENCY, name, clients, float(re.search(r"latency average = ([\d.]+)", said)[1]))
+                note(RATE, name, str(clients), float(re.search(r"tps = ([\d.]+)", said)[1]))
+                note(LATENCY, name, str(clients), float(re.search(r"latency average = ([\d.]+)", said)[1]))
 
     def end(self):
         if self.is_there:
@@ -212,7 +214,7 @@ def shown(values, is_rate):
 
 def print_tables():
     for what, names in reported.items():
-        columns = [column for column in (*CLIENTS, LISTS) if any(column in values for values in names.values())]
+        columns = [column for column, *_ in COLUMNS if any(column in values for values in names.values())]
         print(f"\n| {what} | {' | '.join(map(str, columns))} |\n|{'---|' * (len(columns) + 1)}")
         for name, values in names.items():
             print(f"| {name} | {' | '.join(shown(values[column], what == RATE) if column in values else '' for column in columns)} |")
