@@ -7,7 +7,6 @@ It runs `./test` of the repository, or the command that is named, and shows its 
 of that run every half second, and reads from their words what each prover works on. The table has a row for each crate:
 
     Proof       the crate
-    Tests       its #[test] functions, with the crate once more
     Mutants     its mutants, which must be refused, and what the functions that they change call
     Programs    what two compilers make of a proved program
 
@@ -28,7 +27,7 @@ from pathlib import Path
 
 ROOT = Path(__file__).resolve().parent.parent
 TICKS = os.sysconf("SC_CLK_TCK")
-PARTS = ["Proof", "Tests", "Mutants", "Programs"]
+PARTS = ["Proof", "Mutants", "Programs"]
 
 
 def work_of(words, folder):
@@ -38,8 +37,6 @@ def work_of(words, folder):
     crate = words[words.index("--crate-name") + 1]
     if os.path.basename(folder).startswith("mutants-"):
         return crate, "Mutants"
-    if "--test" in words:
-        return crate, "Tests"
     return crate, "Programs" if "--crate-checked" in words else "Proof"
 
 

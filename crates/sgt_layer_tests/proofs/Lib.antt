@@ -1,2 +1,0 @@
-mod FewNumbers
-mod Readers
