@@ -4,7 +4,7 @@
     tests/in_rattle.py
 
 They are not proved, as nothing rests on them. `rt ci` proves each .rt file of a repository, so theirs end in .rt.in: they are a crate in a
-folder that is made for the run, beside a copy of the crates that they use. The last line counts them.
+folder that is made for the run, beside a copy of the crates without their proofs. The last line counts them.
 """
 
 import os
@@ -30,7 +30,7 @@ ENDED = re.compile(r"test (\S+) \.\.\. (.*)")
 def make_crates(room: Path) -> Path:
     """Puts the crates into a folder, with that of the tests, which is returned."""
     for crate in (TOP / "crates").iterdir():
-        for part in ("src", "specs", "proofs"):
+        for part in ("src", "specs"):
             if (crate / part).is_dir():
                 shutil.copytree(crate / part, room / "crates" / crate.name / part)
     listed = (TOP / "crates.txt").read_text(encoding="utf-8")

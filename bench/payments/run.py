@@ -87,21 +87,22 @@ def served(name, python, load, seconds, *servers, others=()):
     fronts = [it for pid in pids for it in pathlib.Path(f"/proc/{pid}/task/{pid}/children").read_text().split()]
     parts = {"server": pids, "fronts": fronts, **({"journal's processes": others} if others else {})}
     for column, clients, payments in COLUMNS:
-        if clients >= len(ports):
-            load_before, before = taken(), {part: used(it) for part, it in parts.items()}
-            runs = [loading(load, port, clients // len(ports), seconds, random.randrange(10**6), payments) for port in ports]
-            answers = [run.communicate() for run in runs]
-            if any(run.returncode for run in runs):
-                why = " ".join(error.strip() for _, error in answers)
-                print(f"{name}, {column}: left out: {why or 'no reply came'}", flush=True)
-                continue
-            rates, latencies, *_ = zip(*(map(float, text.split()) for text, _ in answers))
-            paid = max(1, sum(rates) * seconds)
-            note(RATE, name, column, sum(rates))
-            note(LATENCY, name, column, statistics.median(latencies))
-            for part, it in parts.items():
-                note(TIME, f"{name}: {part}", column, (used(it) - before[part]) / paid * 1e6)
-            note(TIME, f"{name}: load", column, (taken() - load_before) / paid * 1e6)
+        if clients < len(ports):
+            continue
+        load_before, before = taken(), {part: used(it) for part, it in parts.items()}
+        runs = [loading(load, port, clients // len(ports), seconds, random.randrange(10**6), payments) for port in ports]
+        answers = [run.communicate() for run in runs]
+        if any(run.returncode for run in runs):
+            why = " ".join(error.strip() for _, error in answers)
+            print(f"{name}, {column}: left out: {why or 'no reply came'}", flush=True)
+            continue
+        rates, latencies, *_ = zip(*(map(float, text.split()) for text, _ in answers))
+        paid = max(1, sum(rates) * seconds)
+        note(RATE, name, column, sum(rates))
+        note(LATENCY, name, column, statistics.median(latencies))
+        for part, it in parts.items():
+            note(TIME, f"{name}: {part}", column, (used(it) - before[part]) / paid * 1e6)
+        note(TIME, f"{name}: load", column, (taken() - load_before) / paid * 1e6)
     for process in processes:
         process.kill()
         process.wait()
