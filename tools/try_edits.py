@@ -5,11 +5,10 @@
     tools/try_edits.py in-test [CRATE..]    those of tests/must-fail, as the test command does
 
 A mutant is a file CRATE/NAME.edit: lines that begin with `#` say what the wrong body does, a `file:` line names a file of the crate, and
-pairs of `old:` and `new:` lines change it. The prover checks the functions that the lines change. What they call is taken for granted, by
-its contract: a hole stands in place of its proof. A mutant is refused if one of them is not proved, for a goal that stays open and not only
-since a proof file names what is gone. Those of a crate that change different functions are tried in one check. Where the functions are
-still proved, as those without a contract are, they are checked with what they call, and then the whole crate. `rt must-fail` would prove
-the whole crate for the first mutant of each.
+pairs of `old:` and `new:` lines change it. The prover checks the functions that the lines change, and what they call. A mutant is refused
+if one of them is not proved, for a goal that stays open and not only since a proof file names what is gone. Those of a crate that change
+different functions are tried in one check. Where the functions are still proved, as those without a contract are, the whole crate is
+checked. `rt must-fail` would prove the whole crate for the first mutant of each.
 
 It takes the libraries of the crates below as `rt ci` left them; `rt lib` makes those that are missing, or that `rt check` left. The last
 line counts the mutants, and the status is 1 where one is not refused.
@@ -32,13 +31,6 @@ from edits_apply import CRATES, EDITS, IN_TEST, ROOT, TRIED, applied, function_a
 
 KIT = Path(os.path.realpath(shutil.which("rt") or "rt")).parent.parent
 PARTS = ("src", "specs", "proofs")
-# What the proof of a function is made of, in a folder of its own, and what stands there where it is taken for granted.
-PROOF_FILES = ("Answers.antt", "Invariants.antt", "Proof.antt")
-HOLE = """use Rattle.{crate}.proofs.{path}.Statement.{{statement}}
-
-pub {name}_spec : {{M : Type 1}} → statement M
-{name}_spec = ?
-"""
 # Set once somebody interrupts: no further mutant is tried then.
 INTERRUPTED = threading.Event()
 NOT_PROVED = re.compile(r"fn \w+::(\S+): (?:not proved|no proof: .*`search` did not prove)")
@@ -115,33 +107,9 @@ class Bench:
             if (self.crate / part).is_dir():
                 shutil.copytree(self.crate / part, folder / part)
 
-    def lay_proofs(self, tried=None):
-        """Lays out the proofs anew. Where some functions are tried, a hole stands in place of the proof of each other one."""
-        proofs = self.folder / "proofs"
-        if not proofs.is_dir():
-            return
-        shutil.rmtree(proofs)
-        shutil.copytree(self.crate / "proofs", proofs)
-        for folder in {file.parent for file in proofs.rglob("*.antt") if file.name in PROOF_FILES} if tried else ():
-            parts = folder.relative_to(proofs).parts
-            # Closures and cycles of calls keep their proofs.
-            if "fn" in parts or "+" in "".join(parts) or any(ends_with("::".join(parts), it) for it in tried):
-                continue
-            for name in PROOF_FILES:
-                (folder / name).unlink(missing_ok=True)
-            hole = HOLE.format(crate=self.crate.name, path=".".join(parts), name=parts[-1])
-            (folder / "Proof.antt").write_text(hole, encoding="utf-8")
-
-    def check_alone(self, texts, functions):
-        """What the prover says of these functions alone. What they call is taken for granted."""
-        self.lay_proofs(functions)
-        said = self.check(texts, functions, ["--allow-holes"])
-        self.lay_proofs()
-        return said
-
-    def check(self, texts, functions=(), flags=()):
-        """What the prover says of these functions and of what they call, or of the whole crate, with these texts in place of its own."""
-        only = [*(word for name in functions for word in ("--only", name)), *flags]
+    def check(self, texts, functions=()):
+        """What the prover says of these functions, or of the whole crate, with these texts in place of the crate's own."""
+        only = [word for name in functions for word in ("--only", name)]
         how = {"stdin": subprocess.DEVNULL, "stdout": subprocess.PIPE, "stderr": subprocess.STDOUT, "errors": "replace"}
         for path, text in texts.items():
             (self.folder / path).write_text(text, encoding="utf-8")
@@ -157,9 +125,6 @@ class Bench:
         except ValueError as why:
             return None, f"DOES NOT APPLY: {why}"
         functions = sorted(places - {""})
-        words = self.refusal(functions, self.check_alone(texts, functions), texts) if functions else ""
-        if words:
-            return True, words
         said = self.check(texts, functions)
         if functions and said.status == 2:
             # A name fits no function, or several.
@@ -183,7 +148,7 @@ class Bench:
                     busy.update(functions)
         if len(together) < 2:
             return {}
-        said = self.check_alone(texts, sorted(busy))
+        said = self.check(texts, sorted(busy))
         broken = {found[1] or found[2] for found in map(BROKEN.match, said.lines) if found}
         if broken:
             return {edit: self.attempt(edit) for edit, (functions, paths) in together.items() if broken & {*functions, *paths}}
