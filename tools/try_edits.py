@@ -38,7 +38,7 @@ NOT_PROVED = re.compile(r"fn \w+::(\S+): (?:not proved|no proof: .*`search` did 
 OPEN = re.compile(r"(?:note: )?(?:\./)?(?:(src/\S+?):(\d+):\d+: it is not proved that|proofs/(\S+)/\w+\.antt:\d+:\d+: error)")
 # A file that does not compile, or a name that fits no function, or several.
 BROKEN = re.compile(r"(src/\S+?):\d+:\d+: error\[|rattle: error: .*? `([\w:]+)`: help")
-# What a proof file is told that names what an edit took away, or that rests on what was refused elsewhere.
+# What a proof file is told that names what an edit took away, or that rests on another declaration that was refused.
 LOST_NAME = re.compile(r"(?:\./)?proofs/.*(?:has no field|is not in scope|has no `|was not admitted|\(nearest: |which was rejected)")
 
 
