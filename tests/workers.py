@@ -1,5 +1,5 @@
 #!/usr/bin/env python3
-"""Runs banks with failing allocations, banks whose workers leave, and aborts while all allocations fail.
+"""Runs banks with failing allocations, and banks whose workers leave.
 
     tests/workers.py crates/sgt/out/sgt crates/sgt_bank_runs/out/sgt_bank_runs
 
@@ -76,19 +76,6 @@ def fails_each_allocation_of_a_bank(sgt, _):
     parts = sum(times for done, times in came.items() if isinstance(done, frozenset) and len(done) < 3)
     faults = came["no memory"] + came["workers not started"]
     return f"{count} growths refused, alone and with those behind; {faults} faults, {parts} reports with jobs without memory"
-
-
-def quits_where_all_memory_is_refused(_, program):
-    """A session aborts its transactions, the first one after the first line and the others at the end."""
-    start = "started\naborted quit fell none\n"
-    same("with memory", (0, start + "32 started, then full\n32 quit\n", ""), program.run("quit"))
-    status, out, reported = program.run("quit", refuse_after_writes=1)
-    lines = out.removeprefix(start).splitlines()
-    more = lines[0].split()[0] if lines else "?"
-    same("without memory", (0, start + f"{more} started, then no memory\n{more} quit\n", ""), (status, out, reported))
-    if program.counted("quit", refuse_after_writes=1, count_refused=1) == 0:
-        raise Differs("no memory was refused")
-    return f"{more} more were started, and quit"
 
 
 # Histories
@@ -291,7 +278,6 @@ def knows_a_changed_reply(_, program):
 
 CASES = [
     fails_each_allocation_of_a_bank,
-    quits_where_all_memory_is_refused,
     replays_banks_whose_workers_leave,
     presses_five_accounts,
     refusals_are_those_of_the_serial_run,

@@ -1,11 +1,13 @@
 // Loaded before the C library, this refuses memory, fails reads of standard input and fails writes to standard output, at the
 // calls that the environment names. Each name may be missing.
 //
-// REFUSE_FIRST REFUSE_LAST the first and the last allocation that is refused, counted from 1 REFUSE_AFTER_WRITES each allocation after this
-// many writes to standard output is refused COUNT_ALLOCATIONS prints how many there were, at the end of standard error COUNT_REFUSED prints
-// how many of them were refused, likewise READ_FAILS_AFTER each read after this many bytes fails READ_AT_MOST the most bytes that one read
-// gives WRITE_FAILS_AFTER each write after this many bytes fails WRITE_STOPS_AFTER each write after this many bytes takes nothing
-// WRITE_AT_MOST the most bytes that one write takes
+// REFUSE_FIRST, REFUSE_LAST   the first and the last allocation that is refused, counted from 1
+// COUNT_ALLOCATIONS           prints how many allocations there were, at the end of standard error
+// READ_FAILS_AFTER            each read after this many bytes fails
+// READ_AT_MOST                the most bytes that one read gives
+// WRITE_FAILS_AFTER           each write after this many bytes fails
+// WRITE_STOPS_AFTER           each write after this many bytes takes nothing
+// WRITE_AT_MOST               the most bytes that one write takes
 #define _GNU_SOURCE
 #include <dlfcn.h>
 #include <errno.h>
@@ -16,8 +18,7 @@
 #include <unistd.h>
 
 static const unsigned long none = ~0UL;
-static unsigned long allocations, refusals, first, last;
-static unsigned long writes, refuse_after_writes;
+static unsigned long allocations, first, last;
 static unsigned long given, read_fails_after, read_at_most;
 static unsigned long taken, write_fails_after, write_stops_after, write_at_most;
 static int ready;
@@ -30,7 +31,6 @@ static unsigned long named(const char *name, unsigned long missing) {
 __attribute__((constructor)) static void begin(void) {
   first = named("REFUSE_FIRST", 0);
   last = named("REFUSE_LAST", 0);
-  refuse_after_writes = named("REFUSE_AFTER_WRITES", none);
   read_fails_after = named("READ_FAILS_AFTER", none);
   read_at_most = named("READ_AT_MOST", none);
   write_fails_after = named("WRITE_FAILS_AFTER", none);
@@ -43,7 +43,6 @@ __attribute__((destructor)) static void end(void) {
   if (!ready) return;
   ready = 0;
   if (getenv("COUNT_ALLOCATIONS")) dprintf(2, "%lu\n", allocations);
-  if (getenv("COUNT_REFUSED")) dprintf(2, "%lu\n", refusals);
 }
 
 // A program that ends in this way runs no destructors.
@@ -58,8 +57,7 @@ static int refused(void) {
   unsigned long number;
   if (!ready) return 0;
   number = __atomic_add_fetch(&allocations, 1, __ATOMIC_RELAXED);
-  if ((number < first || number > last) && writes < refuse_after_writes) return 0;
-  __atomic_add_fetch(&refusals, 1, __ATOMIC_RELAXED);
+  if (number < first || number > last) return 0;
   errno = ENOMEM;
   return 1;
 }
@@ -110,7 +108,6 @@ ssize_t write(int file, const void *bytes, size_t size) {
   size_t buffer;
   if (!real) real = dlsym(RTLD_NEXT, "write");
   if (!ready || file != 1) return real(file, bytes, size);
-  writes += 1;
   if (taken >= write_fails_after) {
     errno = EIO;
     return -1;

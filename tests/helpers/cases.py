@@ -71,11 +71,8 @@ class Failing:
         return ran.returncode, ran.stdout.decode(), ran.stderr.decode()
 
     def allocations(self, *words, given=""):
-        return self.counted(*words, given=given, count_allocations=1)
-
-    def counted(self, *words, given="", **failing):
-        """What the library counts."""
-        _, _, reported = self.run(*words, given=given, **failing)
+        """How many allocations a run makes."""
+        _, _, reported = self.run(*words, given=given, count_allocations=1)
         if not reported:
             raise Differs("the library that fails calls is not loaded")
         return int(reported.splitlines()[-1])

@@ -3,7 +3,7 @@ use Rattle.std.proofs.Common.{◌≡◌, ℕ, ◌+◌, ◌<◌, true, false, Lis
 use Rattle.std.specs.Prelude.{zero, suc, nat_lt, slice_get, if◌then◌else◌, Option, None, Some, Ok, Err}
 use Rattle.std.proofs.lemmas.Bool.{le-ltb, lt-ltb}
 use Rattle.std.proofs.lemmas.Option.{none-some, same_Some}
-use Rattle.sgt_format.specs.declared.call.JobCall.{JobCall}
+use Rattle.sgt_model.specs.declared.call.Call.{Call}
 use Rattle.sgt_audit.specs.declared.job.Job.{Job}
 use Rattle.sgt_input.specs.declared.fault.Fault.TheVariants as fault
 use Rattle.sgt_input.specs.Lines.{Cut}
@@ -13,23 +13,23 @@ use Rattle.sgt_bank.specs.Jobs.{unless_too_many, job_at, numbered}
 use Rattle.sgt_bank.specs.Taking.{TakesCall, TakesCalls, EndsWith}
 
 -- one call more
-pub length-snoc : (cs : List JobCall) (c : JobCall) → length (cs ++ c ∷ []) ≡ length cs + 1
+pub length-snoc : (cs : List Call) (c : Call) → length (cs ++ c ∷ []) ≡ length cs + 1
 length-snoc [] c = refl
 length-snoc (x ∷ xs) c = grind (arith, length-snoc xs c)
 
 -- and one job more
-pub numbered-snoc : (n : ℕ) (cs : List JobCall) (c : JobCall)
+pub numbered-snoc : (n : ℕ) (cs : List Call) (c : Call)
     → numbered n (cs ++ c ∷ []) ≡ numbered n cs ++ record { number = n + length cs; procedure = c.procedure; args = c.args } ∷ []
 numbered-snoc n [] c = grind (arith)
 numbered-snoc n (x ∷ xs) c = grind (arith, numbered-snoc (n + 1) xs c)
 
 -- there are as many jobs as calls
-pub length-numbered : (n : ℕ) (cs : List JobCall) → length (numbered n cs) ≡ length cs
+pub length-numbered : (n : ℕ) (cs : List Call) → length (numbered n cs) ≡ length cs
 length-numbered n [] = refl
 length-numbered n (x ∷ xs) = grind (arith, length-numbered (n + 1) xs)
 
 -- each has the number of its position
-pub numbered-at : (n : ℕ) (cs : List JobCall) (i : ℕ) (job : Job) → slice_get (numbered n cs) i ≡ Some job → job.number ≡ n + i
+pub numbered-at : (n : ℕ) (cs : List Call) (i : ℕ) (job : Job) → slice_get (numbered n cs) i ≡ Some job → job.number ≡ n + i
 numbered-at n [] i job at = absurd (none-some job at)
 numbered-at n (c ∷ cs) zero job at = ap (λ (j : Job). j.number) (sym (same_Some _ job at)) ∙ omega arith
 numbered-at n (c ∷ cs) (suc i) job at = numbered-at (n + 1) cs i job at ∙ omega arith
@@ -42,7 +42,7 @@ requested-none first (Some c) =
     (ap (λ n. spelled (job_at first) n c.given) here, ap (λ n. end_of (job_at first) n c.given c.ending) here)
 
 -- one more line that requests a call
-pub requested-next : (first : ℕ) (a b d : Option Cut) (cs : List JobCall) (c : JobCall) → length cs < 1000000
+pub requested-next : (first : ℕ) (a b d : Option Cut) (cs : List Call) (c : Call) → length cs < 1000000
     → TakesCalls first a cs b → TakesCall b c d → TakesCalls first a (cs ++ c ∷ []) d
 requested-next first None b d cs c few before next = tt
 requested-next first (Some a) None d cs c few before next = absurd before
@@ -69,7 +69,7 @@ requested-next first (Some a) (Some b) (Some d) cs c few before (line, given, as
     )
 
 -- one more than may be requested
-pub requested-many : (first : ℕ) (a b d : Option Cut) (cs : List JobCall) (c : JobCall) → length cs ≡ 1000000 → TakesCalls first a cs b
+pub requested-many : (first : ℕ) (a b d : Option Cut) (cs : List Call) (c : Call) → length cs ≡ 1000000 → TakesCalls first a cs b
     → TakesCall b c d → EndsWith first first (Err fault.TooManyJobs) a
 requested-many first None b d cs c many before next = tt
 requested-many first (Some a) None d cs c many before next = absurd before
@@ -84,7 +84,7 @@ requested-many first (Some a) (Some b) (Some d) cs c many before (line, given, a
     ∙ ap (λ r. or_later r (end_of (job_at first) (first + length cs + 1) d.given b.ending)) at
 
 -- the next line is at fault
-pub requested-fault : (first : ℕ) (a b : Option Cut) (cs : List JobCall) (n : ℕ) (end : End) → n ≡ first + length cs → TakesCalls first a cs b
+pub requested-fault : (first : ℕ) (a b : Option Cut) (cs : List Call) (n : ℕ) (end : End) → n ≡ first + length cs → TakesCalls first a cs b
     → EndsWith first n end b → EndsWith first first end a
 requested-fault first None b cs n end at before next = tt
 requested-fault first (Some a) None cs n end at before next = absurd before

@@ -1,20 +1,20 @@
 -- How many jobs of an input have been read.
 use Rattle.std.specs.Prelude.{◌≡◌, ℕ, ◌+◌, ⊤, List, ◌∷◌, ◌++◌, length, Option, None, Some, IfSome, Ok}
 use Rattle.sgt_format.specs.JobLines.{job_of}
-use Rattle.sgt_format.specs.declared.call.JobCall.{JobCall}
+use Rattle.sgt_model.specs.declared.call.Call.{Call}
 use Rattle.sgt_input.specs.Lines.{Cut}
 use Rattle.sgt_input.specs.Ends.{End}
 use Rattle.sgt_input.specs.Spelled.{spelled, end_of}
 use Rattle.sgt_bank.specs.Jobs.{job_at}
 
 -- known lines start with one that requests this call, and these follow
-abbrev pub TakesCall : Option Cut → JobCall → Option Cut → Type 0
+abbrev pub TakesCall : Option Cut → Call → Option Cut → Type 0
 TakesCall None call new = ⊤
 TakesCall (Some old) call None = ⊥
 TakesCall (Some old) call (Some new) = (line : List ℕ) × (old.given ≡ line ∷ new.given) × (job_of line ≡ Ok call) × (old.ending ≡ new.ending)
 
 -- known lines, the first job's and then others, start with those that request these calls, and these follow
-abbrev pub TakesCalls : ℕ → Option Cut → List JobCall → Option Cut → Type 0
+abbrev pub TakesCalls : ℕ → Option Cut → List Call → Option Cut → Type 0
 TakesCalls first None requested new = ⊤
 TakesCalls first (Some old) requested None = ⊥
 TakesCalls first (Some old) requested (Some new) =

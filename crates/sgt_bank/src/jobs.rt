@@ -9,8 +9,9 @@ ghost use Rattle.sgt_bank.specs.Jobs.{job_at, numbered};
 ghost use Rattle.sgt_bank.specs.Taking.{TakesCall, EndsWith};
 
 use json::Scratch;
-use sgt_format::{JobCall, read_job};
+use sgt_format::read_job;
 use sgt_input::{Fault, Lines, Source, at_line};
+use sgt_model::Call;
 use sgt_workers::{Job, MOST_JOBS};
 use std::alloc::Global;
 
@@ -23,7 +24,7 @@ fn next_call<S: Source>(
     scratch: &mut Scratch,
     lines: &mut Lines,
     source: &mut S,
-) -> Result<Option<JobCall>, Fault>
+) -> Result<Option<Call>, Fault>
     requires { S.failures source.old + 1 < 2 ^ 64 }
     ensures call { IfOk result (λ next. IfSome next (λ call.
         TakesCall (cut_left lines.old (S.rest source.old)) call (cut_left lines.new (S.rest source.new)))) }
@@ -83,7 +84,7 @@ pub(crate) fn read_jobs<S: Source>(
         if jobs.len() == MOST_JOBS {
             return Err(Fault::TooManyJobs);
         }
-        let JobCall { procedure, args } = call;
+        let Call { procedure, args } = call;
         let job = Job {
             number: jobs.len() as u32,
             procedure,

@@ -76,6 +76,6 @@ fn records_text(alloc: Global, database: &Database) -> Result<Vec<u8>, NoMemory>
     ensures { IfOk result (λ text. text.items ≡ record_lines database.now) }
 {
     let mut text = Vec::new(alloc);
-    append_records(&mut text, database)?;
+    append_records(&mut text, database.rows())?;
     Ok(text)
 }

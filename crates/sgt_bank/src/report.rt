@@ -23,7 +23,7 @@ pub fn report_text<N>(
 {
     let mut text = Vec::new(alloc);
     append_outcomes(&mut text, history, outcomes)?;
-    append_database(&mut text, database)?;
+    append_database(&mut text, database.rows())?;
     Ok(text)
 }
 

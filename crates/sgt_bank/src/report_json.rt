@@ -25,7 +25,7 @@ pub(crate) fn json_text<N>(
 {
     let mut text = Vec::new(alloc);
     append_outcomes(&mut text, history, outcomes, failed)?;
-    append_records(&mut text, database)?;
+    append_records(&mut text, database.rows())?;
     Ok(text)
 }
 

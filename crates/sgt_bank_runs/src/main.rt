@@ -1,9 +1,8 @@
 //! Runs banks on workers, for the test command and the measurements in `bench`, and prints what they check from
 //! outside. The first argument selects the run:
 //!
-//! sgt_bank_runs bank WORKERS TRIES [SEED ODDS] the bank of standard input; one call in ODDS makes its worker leave
-//! sgt_bank_runs quit a session that aborts its transaction while all allocations fail sgt_bank_runs scripts the
-//! scripts of standard input, each after its length in four bytes
+//! - `bank WORKERS TRIES [SEED ODDS]`: the bank of standard input; one call in ODDS makes its worker leave.
+//! - `scripts`: the scripts of standard input, each after its length in four bytes.
 //!
 //! Without an argument it makes many runs, whose output does not depend on the schedule, and then runs the bank of
 //! standard input by one worker. `stdout` has the expected output. The first runs have gates, which block each worker
@@ -20,7 +19,6 @@ mod gates;
 mod held;
 mod leavers;
 mod printed;
-mod quits;
 mod scripts;
 
 use crate::accounts::{LIMITS, LIMITS_AT_COMMIT};
@@ -29,7 +27,6 @@ use crate::crowd::run_crowd;
 use crate::gates::{Gates, Plan};
 use crate::held::{each_outcome, finish_together, one_gives_up, refusals, second_commits_first};
 use crate::leavers::{all_leave, deep_fall, leave_at_each_call};
-use crate::quits::run_quits;
 use crate::scripts::run_scripts;
 use std::alloc::Global;
 use std::io::{Input, Print};
@@ -98,7 +95,6 @@ fn run<W: Print + Input + Threads + Wait + Sync>(
         return run_all(rt, alloc);
     };
     match word.as_str() {
-        "quit" => run_quits(rt, alloc),
         "scripts" => run_scripts(rt, alloc),
         _ => run_named_bank(rt, alloc, words),
     }

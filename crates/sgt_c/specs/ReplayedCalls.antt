@@ -11,16 +11,11 @@ use Rattle.sgt_model.specs.Progress.{Call, caller_accesses, with_caller_accesses
 use Rattle.sgt_model.specs.Replay.{RunResult, GaveAnswers, RaisedCode, reported, reported_calls}
 use Rattle.sgt_model.specs.Configurations.{Configuration}
 use Rattle.sgt_c.specs.declared.call_struct.SgtCall.{SgtCall}
-use Rattle.sgt_c.specs.declared.call_struct.Started.{Started}
 use Rattle.sgt_c.specs.declared.held.Held.{Held}
 use Rattle.sgt_c.specs.AccessStructs.{accesses_of, listed}
 use Rattle.sgt_c.specs.ManyRuns.{IsStartable}
 
 -- ---- what a struct says
-
--- what a transaction was started with
-abbrev pub called : Started → Call
-called s = record { procedure = s.procedure; args = s.args; caller_accesses = [] }
 
 -- the procedure with its arguments
 abbrev pub bare_call : SgtCall → Call

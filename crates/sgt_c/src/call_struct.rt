@@ -1,20 +1,13 @@
 //! The struct of a call for C: what ran, and its result.
 ghost use Rattle.std.specs.Prelude.{◌≡◌, ◌≤◌, length};
+ghost use Rattle.sgt_model.specs.Questions.{called};
 ghost use Rattle.sgt_model.specs.Replay.{GaveAnswers, RaisedCode};
 ghost use Rattle.sgt_c.specs.ManyRuns.{IsStartable};
-ghost use Rattle.sgt_c.specs.ReplayedCalls.{bare_call, called, ends_in, result_in};
+ghost use Rattle.sgt_c.specs.ReplayedCalls.{bare_call, ends_in, result_in};
 
 use crate::event_struct::write_args;
 use crate::reply_struct::write_answers;
-use sgt_model::{Args, Tid};
-
-/// What a transaction was started with.
-#[derive(Drop)]
-pub struct Started {
-    /// The number of its procedure.
-    pub procedure: u16,
-    pub args: Args,
-}
+use sgt_model::{Call, Tid};
 
 /// A call of a committed or refused transaction, with its result, for C.
 #[repr(C)]
@@ -36,7 +29,7 @@ pub struct SgtCall {
 
 impl SgtCall {
     /// The call of a transaction that was committed with these answers.
-    pub fn committed(t: Tid, started: &Started, accesses: usize, answers: &[i64]) -> SgtCall
+    pub fn committed(t: Tid, started: &Call, accesses: usize, answers: &[i64]) -> SgtCall
         requires { length answers.now ≤ 8 }
         ensures startable { IsStartable result }
         ensures ends { ends_in result ≡ (t, 13) }
@@ -50,7 +43,7 @@ impl SgtCall {
     }
 
     /// The call of a transaction that was refused with this code.
-    pub fn refused(t: Tid, started: &Started, accesses: usize, code: u16) -> SgtCall
+    pub fn refused(t: Tid, started: &Call, accesses: usize, code: u16) -> SgtCall
         ensures startable { IsStartable result }
         ensures ends { ends_in result ≡ (t, 15) }
         ensures call { bare_call result ≡ called started.now }
@@ -62,7 +55,7 @@ impl SgtCall {
         call
     }
 
-    fn without_result(kind: u32, t: Tid, started: &Started, accesses: usize) -> SgtCall
+    fn without_result(kind: u32, t: Tid, started: &Call, accesses: usize) -> SgtCall
         ensures startable { IsStartable result }
         ensures ends { ends_in result ≡ (t, kind) }
         ensures call { bare_call result ≡ called started.now }

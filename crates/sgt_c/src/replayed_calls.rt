@@ -1,23 +1,23 @@
 //! The calls of the committed and refused transactions, in the order of their replies.
 ghost use Rattle.std.specs.Prelude.{◌≡◌, ◌≢◌, ◌≤◌, ◌<◌, ◌↔◌, IsNone, IfSome, IfNone, List, ◌++◌, cond, drop, length, reverse, take};
 ghost use Rattle.std.specs.List.{All};
-ghost use Rattle.std.specs.Option.{option_map};
 ghost use Rattle.sgt_model.specs.declared.entry.Entry.{Entry};
 ghost use Rattle.sgt_model.specs.Fates.{subject};
-ghost use Rattle.sgt_model.specs.Progress.{call_in as started_in, call_of, caller_access_in, caller_accesses};
+ghost use Rattle.sgt_model.specs.Progress.{call_of, caller_access_in, caller_accesses};
+ghost use Rattle.sgt_model.specs.Questions.{called};
 ghost use Rattle.sgt_model.specs.Replay.{reported_call_in, reported_in};
 ghost use Rattle.sgt_c.specs.AccessStructs.{listed};
 ghost use Rattle.sgt_c.specs.Entries.{HasNoPlace};
 ghost use Rattle.sgt_c.specs.ManyRuns.{IsStartable};
-ghost use Rattle.sgt_c.specs.ReplayedCalls.{ArePassed, CountsAccesses, IsLegal, IsReportedAt, ReturnsCalls, call_in, called, ends_by, ends_in, past_at, result_in};
+ghost use Rattle.sgt_c.specs.ReplayedCalls.{ArePassed, CountsAccesses, IsLegal, IsReportedAt, ReturnsCalls, call_in, ends_by, ends_in, past_at, result_in};
 ghost use Rattle.sgt_c.specs.Reruns.{CanBeRerun};
 ghost use Rattle.sgt_c.specs.Handles.{Visits};
 
-use crate::call_struct::{SgtCall, Started};
+use crate::call_struct::SgtCall;
 use crate::handle::{Handle, take_held};
 use crate::status;
 use sgt_log::{EntryRef, History};
-use sgt_model::{Args, Event, ShortReply, Tid};
+use sgt_model::{Args, Call, Event, ShortReply, Tid};
 use sgt_progress::reruns_agree;
 use std::alloc::Global;
 
@@ -174,7 +174,7 @@ fn subject(entry: &EntryRef<'_>) -> Tid
 
 /// What a transaction was started with in the entries before a position, and how many accesses its caller decided on
 /// there. It reads them from the newest to the start.
-fn started(history: &History, place: usize, t: Tid) -> (Started, usize)
+fn started(history: &History, place: usize, t: Tid) -> (Call, usize)
     requires within { place ≤ length history.now.entries }
     requires legal { IsLegal history.now.entries }
     ensures call { call_of (past_at history.now.entries place) t ≡ called result.0 }
@@ -185,31 +185,18 @@ fn started(history: &History, place: usize, t: Tid) -> (Started, usize)
     while 0 < at {
         at -= 1;
         let entry = history.entry(at);
-        if let Some(started) = started_by(&entry, t) {
+        if let Some(started) = entry.call_of(t) {
             return (started, accesses);
         }
         if is_access_by(&entry, t) {
             accesses += 1;
         }
     }
-    let none = Started {
+    let none = Call {
         procedure: 0,
         args: Args::new(),
     };
     (none, accesses)
-}
-
-/// What an entry starts the transaction with, if it does.
-fn started_by(entry: &EntryRef<'_>, t: Tid) -> Option<Started>
-    ensures { started_in entry.now.event entry.now.reply t ≡ option_map called result }
-{
-    if entry.started() != Some(t) {
-        return None;
-    }
-    match entry.event() {
-        Event::Start { procedure, args } => Some(Started { procedure, args }),
-        _ => None,
-    }
 }
 
 /// Whether an entry makes an access for a transaction's caller.

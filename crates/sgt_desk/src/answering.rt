@@ -10,7 +10,7 @@ use sgt_model::{Event, NoMemory, ShortReply, Tid};
 use std::alloc::Global;
 
 /// An engine that answers each event with a legal reply, and keeps both as an entry of its history. The contracts are those of the
-/// `Engine` of `sgt_engine`, as far as a desk needs them; `SharedEngine` of `sgt_shared` implements it.
+/// `Engine` of `sgt_engine`, as far as a desk needs them; `Lent` of `sgt_c` implements it.
 pub trait Answering: Drop {
     /// Its configuration, and its history, newest entry first.
     ghost state: { Self → EngineState };

@@ -294,6 +294,16 @@ impl<R: Records, A: Accesses, G: Graph> Engine<R, A, G> {
         self.history.is_empty()
     }
 
+    /// Whether the transaction is live: it was started, and has neither committed nor aborted.
+    pub fn is_live(&self, t: Tid) -> bool
+        ensures { result ≡ live self.now.past t }
+    {
+        // The history is legal, and the state after a legal one lists exactly those that are live.
+        let _ = self.history();
+        states_are_sound();
+        self.sched().live().as_slice().contains(&t)
+    }
+
     /// The history, oldest entry first. No entry is ever removed from it.
     pub fn history(&self) -> &History
         ensures entries { reverse result.now.entries ≡ self.now.past }

@@ -1,22 +1,12 @@
 //! The call that started a transaction.
 ghost use Rattle.std.specs.Prelude.{◌≡◌, ◌<◌, ℕ, None, IfSome, IfNone};
-ghost use Rattle.std.specs.Option.{option_map};
-ghost use Rattle.sgt_model.specs.Progress.{call_in, call_of};
+ghost use Rattle.sgt_model.specs.Progress.{call_of};
+ghost use Rattle.sgt_model.specs.Questions.{called};
 ghost use Rattle.sgt_explain.specs.Places.{entries_before};
-ghost use Rattle.sgt_explain.specs.Calls.{called, placed_call};
+ghost use Rattle.sgt_explain.specs.Calls.{placed_call};
 
 use crate::indexed_history::IndexedHistory;
-use sgt_log::EntryRef;
-use sgt_model::{Args, Event, Tid};
-
-/// The call that started a transaction.
-#[derive(Drop)]
-pub struct Call {
-    /// The number of its procedure.
-    pub procedure: u16,
-    /// The arguments.
-    pub args: Args,
-}
+use sgt_model::{Call, Tid};
 
 /// The call that started a transaction, in the entries before a position. None if none of them starts it.
 pub fn call_before(history: &IndexedHistory, place: usize, t: Tid) -> Option<Call>
@@ -27,22 +17,9 @@ pub fn call_before(history: &IndexedHistory, place: usize, t: Tid) -> Option<Cal
     let mut at = place.min(history.len());
     while 0 < at {
         at -= 1;
-        if let Some(call) = call_by(&history.entry(at), t) {
+        if let Some(call) = history.entry(at).call_of(t) {
             return Some(call);
         }
     }
     None
-}
-
-/// The call by which an entry starts the transaction, if it does.
-pub fn call_by(entry: &EntryRef<'_>, t: Tid) -> Option<Call>
-    ensures { call_in entry.now.event entry.now.reply t ≡ option_map called result }
-{
-    if entry.started() != Some(t) {
-        return None;
-    }
-    match entry.event() {
-        Event::Start { procedure, args } => Some(Call { procedure, args }),
-        _ => None,
-    }
 }

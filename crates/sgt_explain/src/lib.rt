@@ -41,7 +41,7 @@ mod wait;
 mod words;
 mod writers;
 
-pub use call::{Call, call_before, call_by};
+pub use call::call_before;
 pub use code::{append_code, append_code_abort, append_code_of};
 pub use edge::{CycleEdge, Earlier, cycle_edge};
 pub use explanation::{Pending, append_explanation};

@@ -45,7 +45,7 @@ use Rattle.sgt_format.specs.JobLines.{job_call, job_in, job_of}
 use Rattle.sgt_format.specs.LineTokens.{whole_number, whole_numbers, tree_at, event_at, job_at}
 use Rattle.sgt_format.specs.ScriptLines as ScriptLines
 use Rattle.sgt_format.specs.ScriptLines.{script_line_from, script_line_in, script_line_of}
-use Rattle.sgt_format.specs.declared.call.JobCall.{JobCall}
+use Rattle.sgt_model.specs.declared.call.Call.{Call}
 use Rattle.sgt_format.specs.declared.script_line.ScriptLine.{ScriptLine}
 use Rattle.sgt_format.specs.declared.errors.LineError.TheVariants.{NotJson, BadLine}
 use Rattle.sgt_format.proofs.Views.{tree_of_read}
@@ -232,7 +232,7 @@ spelled_start = spelled_call event_in of_procedure (λ w m trees. refl)
 
 -- a job's
 pub spelled_job : (old d : List Token) (w s : List ℕ) (n : ℤ) (p : ℕ) (texts : List (List ℕ)) (args : List ℤ)
-    (found : Option JobCall) → old ≡ begin_array ∷ string w ∷ number s ∷ d → d ≡ begin_array ∷ (map number texts ++ end_array ∷
+    (found : Option Call) → old ≡ begin_array ∷ string w ∷ number s ∷ d → d ≡ begin_array ∷ (map number texts ++ end_array ∷
     end_array ∷ [])
     → whole_number s ≡ Some n → whole_numbers texts ≡ Some args → length texts ≤ 4 → natural 16 n ≡ Some p
     → found ≡ job_call w p args → IfSome found (λ call. job_at old ≡ Some call)
@@ -258,7 +258,7 @@ pub event_found : (line text : List ℕ) (ts : List Token) (found : Option Event
     → IfSome found (λ event. event_at ts ≡ Some event) → IfSome found (λ event. event_of line ≡ Ok event)
 event_found = line_means event_in
 
-pub job_found : (line text : List ℕ) (ts : List Token) (found : Option JobCall) → IsUtf8 line → text ≡ line → ts ≡ tokens text
+pub job_found : (line text : List ℕ) (ts : List Token) (found : Option Call) → IsUtf8 line → text ≡ line → ts ≡ tokens text
     → IfSome found (λ call. job_at ts ≡ Some call) → IfSome found (λ call. job_of line ≡ Ok call)
 job_found = line_means job_in
 

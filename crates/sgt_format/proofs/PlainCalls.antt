@@ -17,7 +17,7 @@ use Rattle.serde_json.specs.Read.{number_of}
 use Rattle.serde_json.proofs.Numbers.{number_of-negative}
 use Rattle.sgt_model.specs.declared.event.Event.TheVariants.{Start}
 use Rattle.sgt_proc_json.specs.Trees.{natural}
-use Rattle.sgt_format.specs.declared.call.JobCall.{JobCall}
+use Rattle.sgt_model.specs.declared.call.Call.{Call}
 use Rattle.sgt_format.specs.EventLines.{event_of}
 use Rattle.sgt_format.specs.JobLines.{job_of}
 use Rattle.sgt_format.specs.LineTokens.{whole_number, whole_numbers}
@@ -141,7 +141,7 @@ abbrev spaced : List ℕ → List ℕ → ℕ → List ℕ → List (List ℕ ×
 spaced w before p gap args = ([], begin_array) ∷ ([], string w) ∷ (before, number (decimal p)) ∷ (gap, begin_array) ∷ args
 
 -- the tokens of a line that begins with these words
-call_is_spaced : (w words before line rest : List ℕ) (call : JobCall) → IsUtf8 (quoted w) → IsGap before
+call_is_spaced : (w words before line rest : List ℕ) (call : Call) → IsUtf8 (quoted w) → IsGap before
     → line ≡ words ++ (before ++ rest) → (asks : IsCall rest call)
     → words ++ (before ++ (decimal call.procedure ++ (44 ∷ (asks.gap ++ 91 ∷ print_spaced false asks.arguments.spaced))))
     ≡ print_spaced false (spaced w before call.procedure asks.gap asks.arguments.spaced)
@@ -170,7 +170,7 @@ number_is p low = let bits : p < 2 ^ 16 = omega arith in rw (lt-ltb _ _ bits) re
 few_texts : (args : List ℤ) → length args ≤ 4 → length (map signed_decimal args) ≤ 4
 few_texts args few = omega (arith, as_many args)
 
-pub plain_start : (line gap rest : List ℕ) (call : JobCall) → IsGap gap → line ≡ codes "[\"start\"," ++ (gap ++ rest)
+pub plain_start : (line gap rest : List ℕ) (call : Call) → IsGap gap → line ≡ codes "[\"start\"," ++ (gap ++ rest)
     → IsCall rest call → event_of line ≡ Ok (Start call.procedure call.args)
 unfolding print_spaced escape_byte
 plain_start line gap rest call is_gap begins asks =
@@ -181,7 +181,7 @@ plain_start line gap rest call is_gap begins asks =
     (texts_are call.args asks.small) (few_texts call.args asks.few) (number_is call.procedure asks.procedure) refl in
     event_found line line _ (Some (Start call.procedure call.args)) all.utf8 refl refl found
 
-pub job_called : (line gap rest : List ℕ) (call : JobCall) → IsGap gap → line ≡ codes "[\"job\"," ++ (gap ++ rest) → IsCall rest call
+pub job_called : (line gap rest : List ℕ) (call : Call) → IsGap gap → line ≡ codes "[\"job\"," ++ (gap ++ rest) → IsCall rest call
     → job_of line ≡ Ok call
 unfolding print_spaced escape_byte
 job_called line gap rest call is_gap begins asks =

@@ -8,7 +8,7 @@ use Rattle.serde_json.specs.Read.{number_of, of_json, max_depth}
 use Rattle.sgt_model.specs.declared.event.Event.{Event}
 use Rattle.sgt_format.specs.EventLines.{event_in}
 use Rattle.sgt_format.specs.JobLines.{job_in}
-use Rattle.sgt_format.specs.declared.call.JobCall.{JobCall}
+use Rattle.sgt_model.specs.declared.call.Call.{Call}
 
 -- the whole number that a text spells
 abbrev pub whole_number : List ℕ → Option ℤ
@@ -28,5 +28,5 @@ abbrev pub event_at : List Token → Option Event
 event_at tokens = option_and_then event_in (tree_at tokens)
 
 -- the job that tokens spell
-abbrev pub job_at : List Token → Option JobCall
+abbrev pub job_at : List Token → Option Call
 job_at tokens = option_and_then job_in (tree_at tokens)

@@ -4,7 +4,7 @@ use Rattle.std.specs.Fmt.{decimal, signed_decimal}
 use lib.Signed.{mag}
 use Rattle.json.specs.Token.{Token, end_array, number}
 use Rattle.json.specs.Spaced.{IsGap, AreGaps, print_spaced}
-use Rattle.sgt_format.specs.declared.call.JobCall.{JobCall}
+use Rattle.sgt_model.specs.declared.call.Call.{Call}
 
 -- whether a newline is among these bytes
 abbrev pub has_newline : List ℕ → Bool
@@ -33,7 +33,7 @@ AreSmall [] = ⊤
 AreSmall (n ∷ rest) = (mag n < 1_000_000_000_000_000_000) × AreSmall rest
 
 -- a procedure, its arguments and the brackets that close a line
-pub record IsCall (text : List ℕ) (call : JobCall) : Type 0 where
+pub record IsCall (text : List ℕ) (call : Call) : Type 0 where
   pub gap : List ℕ
   pub list : List ℕ
   pub is_gap : IsGap gap

@@ -3,17 +3,17 @@ ghost use Rattle.std.specs.Prelude.{◌≡◌, ◌++◌, take, OnOk, OnErr, vec_
 ghost use Rattle.sgt_format.specs.DatabaseText.{row_text, database_text};
 
 use crate::decimal_text::{LONGEST_LINE, write_byte, write_record};
-use sgt_model::{Database, Key, NoMemory};
+use sgt_model::{Key, NoMemory};
 use std::alloc::AllocError;
 
-/// Appends the lines of a database to a text: one line for each row, by table and then by number. Only the growth of
-/// the text allocates memory.
-pub fn append_database(text: &mut Vec<u8>, database: &Database) -> Result<(), NoMemory>
-    ensures ok { OnOk result (text.new.items ≡ text.old.items ++ database_text database.now) }
+/// Appends the lines of a database to a text: one for each of its rows, in their order. Only the growth of the text
+/// allocates memory.
+pub fn append_database(text: &mut Vec<u8>, rows: &[(Key, i64)]) -> Result<(), NoMemory>
+    ensures ok { OnOk result (text.new.items ≡ text.old.items ++ database_text rows.now) }
     ensures err { OnErr result (text.new.items ≡ text.old.items) }
 {
     let before = text.len();
-    if append_rows(text, database.rows()).is_err() {
+    if append_rows(text, rows).is_err() {
         text.truncate(before);
         return Err(NoMemory);
     }

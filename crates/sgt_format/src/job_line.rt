@@ -7,7 +7,6 @@ ghost use Rattle.sgt_format.specs.EventLines.{procedure, arguments};
 ghost use Rattle.sgt_format.specs.JobLines.{job_call, job_in, job_of};
 ghost use Rattle.sgt_format.specs.declared.errors.LineError.TheVariants.{NoMemory};
 
-use crate::call::JobCall;
 use crate::errors::LineError;
 use crate::event_line::{arguments, procedure};
 use crate::line_tokens::quick_job;
@@ -15,7 +14,7 @@ use crate::plain_line::plain_job;
 use crate::tree::{items, read_tree};
 use json::Scratch;
 use serde_json::Value;
-use sgt_model::Args;
+use sgt_model::{Args, Call};
 use std::alloc::Global;
 
 /// The job that a line spells, without its end: `["job", procedure, [arg, ..]]`.
@@ -27,11 +26,11 @@ use std::alloc::Global;
 /// - `NotJson`: the line is not JSON.
 /// - `BadLine`: the line is JSON of any other form.
 /// - `NoMemory`: an allocation failed.
-pub fn read_job(alloc: Global, scratch: &mut Scratch, line: &[u8]) -> Result<JobCall, LineError>
+pub fn read_job(alloc: Global, scratch: &mut Scratch, line: &[u8]) -> Result<Call, LineError>
     ensures job { IfOk result (λ job. job_of line.now ≡ Ok job) }
     ensures error { IfErr result (λ error. error ≢ NoMemory → job_of line.now ≡ Err error) }
 {
-    let mut call = JobCall {
+    let mut call = Call {
         procedure: 0,
         args: Args::new(),
     };
@@ -43,7 +42,7 @@ pub fn read_job(alloc: Global, scratch: &mut Scratch, line: &[u8]) -> Result<Job
 
 /// The same, of a line that is not in plain form.
 #[inline(never)]
-fn read_other_job(alloc: Global, scratch: &mut Scratch, line: &[u8]) -> Result<JobCall, LineError>
+fn read_other_job(alloc: Global, scratch: &mut Scratch, line: &[u8]) -> Result<Call, LineError>
     ensures job { IfOk result (λ job. job_of line.now ≡ Ok job) }
     ensures error { IfErr result (λ error. error ≢ NoMemory → job_of line.now ≡ Err error) }
 {
@@ -56,7 +55,7 @@ fn read_other_job(alloc: Global, scratch: &mut Scratch, line: &[u8]) -> Result<J
     job_in(&tree).ok_or(LineError::BadLine)
 }
 
-fn job_in(tree: &Value) -> Option<JobCall>
+fn job_in(tree: &Value) -> Option<Call>
     ensures { result ≡ job_in (view tree.now) }
 {
     match items(tree)? {
@@ -66,17 +65,17 @@ fn job_in(tree: &Value) -> Option<JobCall>
 }
 
 /// The job of a word, a procedure's number and a list of arguments.
-fn of_three(word: &Value, number: &Value, list: &Value) -> Option<JobCall>
+fn of_three(word: &Value, number: &Value, list: &Value) -> Option<Call>
     ensures { result ≡ of_three job_call (as_str (view word.now)) (procedure (view number.now)) (arguments (view list.now)) }
 {
     job_call(word.as_str()?, procedure(number)?, arguments(list)?)
 }
 
-pub(crate) fn job_call(word: &str, procedure: u16, args: Args) -> Option<JobCall>
+pub(crate) fn job_call(word: &str, procedure: u16, args: Args) -> Option<Call>
     ensures { result ≡ job_call word.now procedure args }
 {
     match word {
-        "job" => Some(JobCall { procedure, args }),
+        "job" => Some(Call { procedure, args }),
         _ => None,
     }
 }

@@ -14,13 +14,12 @@
 //! let mut scratch = Scratch::new(alloc); // of the crate `json`, kept from line to line
 //! let event = read_event(alloc, &mut scratch, b"[\"start\",0,[1]]")?;
 //! append_reply(&mut lines, &Reply::Started(Tid(0)))?; // adds "started 0\n"
-//! append_database(&mut lines, &opening.database)?; // adds "0/1 101\n1/101 500\n2/101 1000\n"
-//! append_records(&mut lines, &opening.database)?; // adds "[\"record\",0,1,101]\n[\"record\",1,101,500]\n[\"record\",2,101,1000]\n"
+//! append_database(&mut lines, opening.database.rows())?; // adds "0/1 101\n1/101 500\n2/101 1000\n"
+//! append_records(&mut lines, opening.database.rows())?; // adds "[\"record\",0,1,101]\n[\"record\",1,101,500]\n[\"record\",2,101,1000]\n"
 //! ```
 #![tactic(auto)]
 
 mod access_line;
-mod call;
 mod cut_text;
 mod database_text;
 mod decimal_text;
@@ -42,7 +41,6 @@ mod sheet;
 mod template;
 mod tree;
 
-pub use call::JobCall;
 pub use cut_text::{append_cut, append_still_live};
 pub use database_text::append_database;
 pub use decimal_text::{append_answers, append_commit_line, append_number, append_numbered};

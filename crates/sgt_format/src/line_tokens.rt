@@ -8,12 +8,11 @@ ghost use Rattle.sgt_format.specs.EventLines.{event_of};
 ghost use Rattle.sgt_format.specs.JobLines.{job_of};
 ghost use Rattle.sgt_format.specs.LineTokens.{whole_number, whole_numbers, event_at, job_at};
 
-use crate::call::JobCall;
 use crate::event_line::{of_procedure, of_transaction};
 use crate::job_line::job_call;
 use fast_float::Numeral;
 use json::{Reader, Scratch, Token};
-use sgt_model::{Args, Event, NoMemory, Tid};
+use sgt_model::{Args, Call, Event, NoMemory, Tid};
 
 /// The event of a line that is not in plain form, read token by token, without a tree. If this finds none, the line's
 /// tree decides.
@@ -30,7 +29,7 @@ pub(crate) fn quick_event(line: &[u8], scratch: &mut Scratch) -> Result<Option<E
 
 /// The job that a line spells, found in the same way.
 #[tactic(auto, using(crate::proofs::LineTokens::job_found))]
-pub(crate) fn quick_job(line: &[u8], scratch: &mut Scratch) -> Result<Option<JobCall>, NoMemory>
+pub(crate) fn quick_job(line: &[u8], scratch: &mut Scratch) -> Result<Option<Call>, NoMemory>
     ensures { IfOk result (λ found. IfSome found (λ call. job_of line.now ≡ Ok call)) }
 {
     let Ok(text) = str::from_utf8(line) else {
@@ -54,7 +53,7 @@ fn event_at(reader: &mut Reader<'_>) -> Option<Event>
     of_procedure(word, procedure_of(first)?, args)
 }
 
-fn job_at(reader: &mut Reader<'_>) -> Option<JobCall>
+fn job_at(reader: &mut Reader<'_>) -> Option<Call>
     ensures { IfSome result (λ call. job_at reader.old ≡ Some call) }
 {
     let (word, first) = take_head(reader)?;

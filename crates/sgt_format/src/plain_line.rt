@@ -9,9 +9,8 @@ ghost use Rattle.sgt_format.specs.JobLines.{job_of};
 ghost use Rattle.sgt_format.specs.RecordLines.{record_line_of};
 ghost use Rattle.sgt_format.specs.PlainLines.{comma_after, has_newline, AreArguments, AreSmall, IsCall};
 
-use crate::call::JobCall;
 use crate::record_line::RecordLine;
-use sgt_model::{Args, Event, Tid};
+use sgt_model::{Args, Call, Event, Tid};
 use std::simd::prelude::*;
 
 /// Reads the event of a line in plain form into `event`. If this returns `None`, the tokens decide. The third letter of
@@ -89,19 +88,19 @@ fn plain_start_or_quit(line: &[u8], event: &mut Event) -> Option<()>
         return Some(());
     }
     let at = item_index(line, b"[\"start\",")?;
-    let mut call = JobCall {
+    let mut call = Call {
         procedure: 0,
         args: Args::new(),
     };
     last_call(&line[at..], &mut call)?;
-    let JobCall { procedure, args } = call;
+    let Call { procedure, args } = call;
     *event = Event::Start { procedure, args };
     Some(())
 }
 
 /// Reads the job of a line in plain form into `call`.
 #[inline(always)]
-pub(crate) fn plain_job(line: &[u8], call: &mut JobCall) -> Option<()>
+pub(crate) fn plain_job(line: &[u8], call: &mut Call) -> Option<()>
     ensures { IfSome result (λ _. job_of line.now ≡ Ok call.new) }
 {
     last_call(item_after(line, b"[\"job\",")?, call)?;
@@ -266,7 +265,7 @@ fn bracketed_digits(text: &[u8]) -> Option<(u64, usize)>
 
 /// Reads the call of a text that is a procedure, a list of arguments and a closing bracket into `call`.
 #[inline(always)]
-fn last_call(text: &[u8], call: &mut JobCall) -> Option<()>
+fn last_call(text: &[u8], call: &mut Call) -> Option<()>
     ensures { IfSome result (λ _. IsCall text.now call.new) }
 {
     let (number, rest) = natural_and_rest(text)?;

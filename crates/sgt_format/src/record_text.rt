@@ -4,17 +4,17 @@ ghost use Rattle.sgt_format.specs.RecordText.{key_numbers, row_numbers, record_l
 
 use crate::decimal_text::{LONGEST_LINE, write_byte, write_signed, write_words};
 use itoa::write_digits;
-use sgt_model::{Database, Key, NoMemory};
+use sgt_model::{Key, NoMemory};
 use std::alloc::AllocError;
 
-/// Appends the records of a database to a text as lines of JSON: `["record",table,number,value]` for each row, by table
-/// and then by number. Only the growth of the text allocates memory.
-pub fn append_records(text: &mut Vec<u8>, database: &Database) -> Result<(), NoMemory>
-    ensures ok { OnOk result (text.new.items ≡ text.old.items ++ record_lines database.now) }
+/// Appends the records of a database to a text as lines of JSON: `["record",table,number,value]` for each of its rows, in
+/// their order. Only the growth of the text allocates memory.
+pub fn append_records(text: &mut Vec<u8>, rows: &[(Key, i64)]) -> Result<(), NoMemory>
+    ensures ok { OnOk result (text.new.items ≡ text.old.items ++ record_lines rows.now) }
     ensures err { OnErr result (text.new.items ≡ text.old.items) }
 {
     let before = text.len();
-    if append_record_lines(text, database.rows()).is_err() {
+    if append_record_lines(text, rows).is_err() {
         text.truncate(before);
         return Err(NoMemory);
     }

@@ -1,8 +1,10 @@
 //! An entry, read in place in the history.
 ghost use Rattle.std.specs.Prelude.{◌≡◌, ◌≤◌, ◌↔◌, false, length, IsTrue, None};
+ghost use Rattle.std.specs.Option.{option_map};
 ghost use Rattle.sgt_model.specs.declared.event.Event.TheVariants.{Start};
 ghost use Rattle.sgt_model.specs.Fates.{is_start};
-ghost use Rattle.sgt_model.specs.Questions.{named_by, started_in, over_in};
+ghost use Rattle.sgt_model.specs.Progress.{call_in};
+ghost use Rattle.sgt_model.specs.Questions.{called, named_by, started_in, over_in};
 ghost use Rattle.sgt_model.specs.Questions.{refuses_start, is_wait, is_commit, is_raised, is_quit, is_ending, reports_end};
 ghost use Rattle.sgt_model.specs.ShortReplies.{short_reply, cycle_of_reply, fell_in, answers_in};
 ghost use Rattle.sgt_log.specs.EntryParts.{args_in, bare_event, full_entry, committed_in, is_by_cycle, reports_fall, is_access, AreFew, HasArgs};
@@ -13,7 +15,7 @@ use crate::span::Span;
 use crate::stored_entry::StoredEntry;
 use crate::stored_event::StoredEvent;
 use crate::stored_reply::StoredReply;
-use sgt_model::{Answers, Entry, Event, Reply, ShortCause, ShortFate, ShortReply, Tid};
+use sgt_model::{Answers, Call, Entry, Event, Reply, ShortCause, ShortFate, ShortReply, Tid};
 use std::marker::Model;
 
 /// An entry of a history, read in place. Contracts see it as the entry.
@@ -248,10 +250,7 @@ impl<'a> EntryRef<'a> {
     pub fn refuses_start(&self) -> bool
         ensures { result ≡ refuses_start self.now.reply }
     {
-        matches!(
-            self.stored.reply,
-            StoredReply::NoProcedure | StoredReply::BadArgs | StoredReply::Spent | StoredReply::Full
-        )
+        self.stored.reply.refuses_start()
     }
 
     /// Whether its reply reports a read or a write.
@@ -386,6 +385,19 @@ impl<'a> EntryRef<'a> {
             StoredReply::Committed { count, from } => Some(Span::new(from, count).values(
                 self.values,
             )),
+            _ => None,
+        }
+    }
+
+    /// The call with which it starts the transaction, if it does.
+    pub fn call_of(&self, t: Tid) -> Option<Call>
+        ensures { call_in self.now.event self.now.reply t ≡ option_map called result }
+    {
+        if self.started() != Some(t) {
+            return None;
+        }
+        match self.event() {
+            Event::Start { procedure, args } => Some(Call { procedure, args }),
             _ => None,
         }
     }

@@ -3,6 +3,7 @@ ghost use Rattle.std.specs.Prelude.{◌≡◌, ◌+◌, ◌≤◌, ◌↔◌, �
 ghost use Rattle.sgt_model.specs.Numbers.{IsValue};
 ghost use Rattle.sgt_model.specs.declared.reply.Reply.TheVariants.{Over, Aborted};
 ghost use Rattle.sgt_model.specs.declared.short_reply.ShortReply.TheVariants.{Looked, Wrote};
+ghost use Rattle.sgt_model.specs.Questions.{refuses_start};
 ghost use Rattle.sgt_model.specs.ShortReplies.{full_cause, full_fate, full_reply, cause_cycle, fate_cycle, answers_in, cycle_of_reply, fell_in};
 ghost use Rattle.sgt_log.specs.Spans.{part_of, HasMore, IsWithin};
 ghost use Rattle.sgt_log.specs.StoredEntries.{short_of, reply_of, answers_at, cycle_at, fell_at, IsReply, HasKey, HasNoLists};
@@ -204,6 +205,16 @@ impl StoredReply {
             cycle_from: path.from,
             fell_from: cascade.from,
         }
+    }
+
+    /// Whether it answers a start that starts nothing.
+    pub fn refuses_start(&self) -> bool
+        ensures { (tids : List ℕ) (values : List ℤ) → result ≡ refuses_start (reply_of tids values self.now) }
+    {
+        matches!(
+            self,
+            StoredReply::NoProcedure | StoredReply::BadArgs | StoredReply::Spent | StoredReply::Full
+        )
     }
 
     /// Whether it is of a kind that has no lists.

@@ -1,10 +1,12 @@
 -- What an event and its reply say by themselves, without the history.
-use Rattle.std.specs.Prelude.{ℕ, Bool, true, false, cond, Option, Some, None}
+use Rattle.std.specs.Prelude.{ℕ, Bool, true, false, cond, List, [], Option, Some, None}
+use Rattle.sgt_model.specs.declared.call.Call.{Call}
 use Rattle.sgt_model.specs.declared.event.Event.{Event}
 use Rattle.sgt_model.specs.declared.event.Event.TheVariants.{Start, Step, Access, Commit, Quit}
 use Rattle.sgt_model.specs.declared.reply.Reply.{Reply}
 use Rattle.sgt_model.specs.declared.reply.Reply.TheVariants as reply
 use Rattle.sgt_model.specs.declared.reply.Cause.TheVariants as cause
+use Rattle.sgt_model.specs.Progress as progress
 
 -- an event
 
@@ -15,6 +17,10 @@ named_by (Step t) = Some t
 named_by (Access t d) = Some t
 named_by (Commit t) = Some t
 named_by (Quit t) = Some t
+
+-- a call, before its caller has decided on an access
+abbrev pub called : Call → progress.Call
+called c = record { procedure = c.procedure; args = c.args; caller_accesses = [] }
 
 -- a reply
 

@@ -48,6 +48,7 @@
 #![tactic(auto)]
 
 mod bounded;
+mod call;
 mod database;
 mod entry;
 mod errors;
@@ -65,6 +66,7 @@ mod tid;
 mod tids;
 
 pub use bounded::Bounded;
+pub use call::Call;
 pub use database::Database;
 pub use entry::Entry;
 pub use errors::{MakeError, NoMemory};

@@ -273,10 +273,9 @@ fn append_last(
     ensures { OnOk result (Last output (left_by (part_at engine.now)) text.new.items) }
 {
     match output {
-        Output::Replies => append_database(text, &engine.database(alloc)?),
+        Output::Replies => append_database(text, engine.database(alloc)?.rows()),
         Output::History => Ok(()),
-        Output::Records => append_records(text, &engine.database(alloc)?),
-        Output::Json => append_records(text, &engine.database(alloc)?),
+        Output::Records | Output::Json => append_records(text, engine.database(alloc)?.rows()),
     }
 }
 

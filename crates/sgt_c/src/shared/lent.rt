@@ -27,7 +27,7 @@ impl Answering for Lent {
     }
 
     fn is_live(&self, t: Tid) -> bool {
-        sgt_shared::is_live(&self.held.engine, t)
+        self.held.engine.is_live(t)
     }
 
     fn live_count(&self) -> usize {

@@ -1,6 +1,7 @@
 use Rattle.std.proofs.Common.{◌≡◌, ◌-◌, ◌+◌, length, ap, ◌∙◌, arith}
 use Rattle.sgt_model.specs.Progress.{caller_accesses}
-use Rattle.sgt_c.specs.ReplayedCalls.{called, past_at}
+use Rattle.sgt_model.specs.Questions.{called}
+use Rattle.sgt_c.specs.ReplayedCalls.{past_at}
 use Rattle.sgt_c.proofs.CallerAccesses.{none_to_start}
 use Rattle.sgt_c.proofs.replayed_calls.started.Goals as goal
 
