@@ -88,7 +88,7 @@ fn codes_in(alloc: Global, procedure: &Value) -> Result<Vec<u16>, NoMemory> {
     Ok(codes)
 }
 
-/// The most parts of a procedure: it stands in a line of at most so many bytes.
+/// The most parts of a procedure: as many as a line may have bytes.
 const MOST_PARTS: usize = 65_536;
 
 /// Adds the parts of a list to those that are not searched yet.

@@ -29,7 +29,7 @@ pub(crate) enum Detail {
     Nothing,
     /// These words.
     Words(&'static str),
-    /// The input has more than so many bytes.
+    /// The input has more bytes than this.
     TooLong(usize),
     /// These words, about what stands at this column, in bytes from 1.
     At(usize, &'static str),
@@ -103,7 +103,7 @@ fn digit(code: u32, unit: u32) -> &'static str {
     DIGITS.get(place as usize).copied().unwrap_or("0")
 }
 
-/// The failure of a script or a bank that read at most so many bytes: from a file, or from standard input. Its fault is
+/// The failure of a script or a bank that read at most `most` bytes: from a file, or from standard input. Its fault is
 /// about this line, if it is about one.
 pub(crate) fn failure_of<R: Files>(
     rt: &R,

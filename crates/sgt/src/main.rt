@@ -429,7 +429,7 @@ fn most_bytes(options: &ArgMatches<'_>) -> usize
     (most as usize).min(MOST_BYTES)
 }
 
-/// Runs a script from the input, which has so many bytes if that is known, to standard output.
+/// Runs a script from the input to standard output. `size` is the length of the input in bytes, if that is known.
 fn script<R: Print + Eprint + Files + Clock, I: Read + Drop>(
     rt: &R,
     alloc: Global,
@@ -775,8 +775,8 @@ fn unwritten<R: Eprint>(rt: &R, kind: io::ErrorKind) -> ExitCode {
     failed(rt, write_failure(Some(kind), Fault::Writing))
 }
 
-/// Runs the subcommand with this name on the input, which has so many bytes if that is known, and returns the exit
-/// status.
+/// Runs the subcommand with this name on the input, and returns the exit status. `size` is the length of the input in
+/// bytes, if that is known.
 fn run_on<R: Print + Eprint + Files + Clock + Threads + Wait + Sync, I: Read + Drop>(
     rt: &R,
     alloc: Global,

@@ -31,7 +31,7 @@ pub struct Survey {
 }
 
 /// Makes one pass over the history. It returns none if after an entry more transactions are live than there are workers,
-/// or some at the end. It reserves a row for each of so many jobs.
+/// or some at the end. It reserves a row for each job.
 ///
 /// `NoMemory` if an allocation failed.
 pub fn make_survey(

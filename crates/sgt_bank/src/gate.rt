@@ -13,7 +13,7 @@ pub(crate) trait Failures {
     /// These procedures of line 1 come after those of SmallBank. Called once, before the run.
     fn opened(&self, procedures: &[Checked]);
 
-    /// How often each of so many jobs was tried in vain. A list that ends early says that it was not seen.
+    /// How often each job was tried in vain. A list that ends early says that it was not seen.
     ///
     /// `NoMemory` if an allocation failed, for this list or for a try during the run.
     fn failures(&self, alloc: Global, jobs: usize) -> Result<Vec<u32>, NoMemory>;

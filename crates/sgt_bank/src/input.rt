@@ -11,7 +11,7 @@ use sgt_input::{Fault, Lines, Source, opening_of, read_records};
 use sgt_workers::Job;
 use std::alloc::Global;
 
-/// Reads an input of at most so many bytes: its opening, the records after it, and its jobs. The opening must allow as
+/// Reads an input of at most `most` bytes: its opening, the records after it, and its jobs. The opening must allow as
 /// many live transactions as there are workers. `line` gets a copy of the line of the fault, if the fault has one, and of
 /// line 1 otherwise: for a second look that explains the fault. It gets none if memory runs out.
 ///

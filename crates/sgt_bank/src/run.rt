@@ -58,7 +58,7 @@ fn run_after_opening<G: Gate<Note = Infallible> + Sync, W: Threads + Wait + Sync
     }
 }
 
-/// Runs the jobs of an input of at most so many bytes. The gate is called as by `run` of `sgt_workers`.
+/// Runs the jobs of an input of at most `most` bytes. The gate is called as by `run` of `sgt_workers`.
 ///
 /// # Errors
 ///
@@ -92,7 +92,7 @@ fn run_input<S: Source, G: Gate<Note = Infallible> + Failures + Sync, W: Threads
     Ok(report)
 }
 
-/// How often each of so many jobs was tried in vain, if this output mode reports that; else nothing.
+/// How often each job was tried in vain, if this output mode reports that; else nothing.
 fn failures_for<G: Failures>(
     alloc: Global,
     output: Output,
@@ -120,7 +120,7 @@ fn write_text<T: Sink>(sink: &mut T, text: &[u8]) -> Result<(), Fault>
     Ok(())
 }
 
-/// Runs the jobs of an input of at most so many bytes and writes the output. The gate is called as by `run` of
+/// Runs the jobs of an input of at most `most` bytes and writes the output. The gate is called as by `run` of
 /// `sgt_workers`. `line` is as of `read_input`.
 ///
 /// # Errors

@@ -102,7 +102,7 @@ impl Tally {
         }
     }
 
-    // Counts a job with so many failed tries.
+    // Counts a job, with its number of failed tries.
     fn count<N>(&mut self, outcome: &Outcome<N>, failed: usize) {
         match outcome {
             Outcome::Done(_) => self.committed = self.committed.saturating_add(1),
@@ -115,7 +115,7 @@ impl Tally {
         self.tries = self.tries.saturating_add(failed).saturating_add(last);
     }
 
-    // Appends what was counted of so many jobs, in one line.
+    // Appends what was counted of the jobs, in one line.
     fn append(&self, text: &mut Vec<u8>, jobs: usize) -> Result<(), AllocError> {
         append_numbered(text, b"", jobs)?;
         text.extend_from_slice(if jobs == 1 { b" job" } else { b" jobs" })?;
@@ -264,7 +264,7 @@ fn append_job<N>(
     Ok(())
 }
 
-// Appends the code with which the job aborted, after so many failed tries.
+// Appends the code with which the job aborted, after its failed tries.
 fn append_coded(
     text: &mut Vec<u8>,
     failed: usize,
@@ -277,7 +277,7 @@ fn append_coded(
     Ok(())
 }
 
-// Appends how the job ended in another way, after so many failed tries.
+// Appends how the job ended in another way, after its failed tries.
 fn append_outcome<N>(
     text: &mut Vec<u8>,
     failed: usize,
@@ -335,7 +335,7 @@ fn append_refused(
 /// How many arguments SmallBank's procedures take, by number.
 const TAKES: [u8; 5] = [1, 2, 2, 2, 2];
 
-// How many arguments the procedure takes that the event starts, if that is known. Those of line 1 take so many.
+// How many arguments the procedure takes that the event starts, if that is known. `takes` has those of line 1.
 fn taken_by(event: &Event, takes: &[u8]) -> Option<u8> {
     match event {
         Event::Start { procedure, .. } if *procedure == EMPTY_PROCEDURE => Some(0),

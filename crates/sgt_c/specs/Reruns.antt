@@ -54,7 +54,7 @@ pub record RerunReportsTheSame (s : Configuration) (past now : List Entry) (call
   pub given : GivenReportTheSame s past (map (given_by now) calls)
   pub runs : All IsRunnable calls → RunsReportTheSame s past calls
 
--- that is so of the calls that were read up to a position: those read now, from `from` to `next`, behind those read earlier,
+-- that is so of the calls that were read up to a position: those read now, from `from` to `next`, after those read earlier,
 -- which are the ones before `from`. From 0 there are none earlier
 abbrev pub CanBeRerun : Option Held → ℕ → List SgtCall → ℕ → ℕ → Type 0
 CanBeRerun None from to count next = ⊥

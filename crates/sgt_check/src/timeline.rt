@@ -10,7 +10,7 @@ use sgt_notation::History;
 use sgt_timeline::{Highlight, Picture, draw_up_to};
 use std::alloc::Global;
 
-/// Draws the history with the report below it: whole, if it has at most so many operations. The cycle of the report stands out, and
+/// Draws the history with the report below it: whole, if it has at most `whole` operations. The cycle of the report stands out, and
 /// the first violation of each other class.
 pub(crate) fn draw_report(
     alloc: Global,

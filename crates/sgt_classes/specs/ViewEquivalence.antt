@@ -1,5 +1,5 @@
--- View equivalence (Bernstein, Hadzilacos and Goodman (1987), chapter 2): what two histories read, and what they leave
--- behind.
+-- View equivalence (Bernstein, Hadzilacos and Goodman (1987), chapter 2): what two histories read, and what their
+-- last writes are.
 use Rattle.std.specs.Prelude.{◌≡◌, ◌<◌, ◌↔◌, ℕ, List}
 use Rattle.sgt_classes.specs.declared.operation.Operation.{Operation}
 use Rattle.sgt_classes.specs.declared.operation.Action.TheVariants.{Read, Write}

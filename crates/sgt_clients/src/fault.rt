@@ -99,7 +99,7 @@ pub enum ClientsFault {
     /// There is no transaction to judge.
     #[error("no operations")]
     NoOperations,
-    /// The same, and so many entries are of no transaction.
+    /// The same. This many entries are of no transaction.
     #[error("no operations; entries skipped, since they are of no transaction: {0}")]
     OnlySkipped(usize),
     /// Real time is to be kept, and no entry is an invocation.

@@ -1,4 +1,5 @@
-//! The check of what the clients of a database saw, in the list-append model of Elle: is it serializable?
+//! The check of what the clients of a database saw, in the list-append model of Elle: is it serializable? Like `sgt_appends`,
+//! this crate knows nothing of the engine: the history may come from any database.
 //!
 //! - [`read_clients`] reads a history as Jepsen writes it in JSON: an object for each invocation and each completion of
 //!   a transaction. The transactions become those of `sgt_appends`.

@@ -161,7 +161,7 @@ fn unasked(clients: &Clients, strict: bool) -> Option<ClientsFault>
     Some(ClientsFault::Entry(alone.line, span.began, Flaw::NoInvocation))
 }
 
-/// The error of an input without a transaction, of which so many entries were skipped.
+/// The error of an input without a transaction, whose entries were all skipped.
 fn nothing_to_judge(skipped: usize) -> ClientsFault
     ensures { IsOwn result }
 {

@@ -100,7 +100,7 @@ impl Model for Lines {
 }
 
 impl Lines {
-    /// The state before the first byte of an input that may have so many bytes, at most `MOST_BYTES`.
+    /// The state before the first byte of an input of at most `most` bytes. `most` is at most `MOST_BYTES`.
     ///
     /// # Errors
     ///

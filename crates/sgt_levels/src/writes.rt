@@ -136,8 +136,8 @@ fn are_first(
     true
 }
 
-/// How many values of the list a read saw with the value, if it saw so many before it. The value is the next one, or no
-/// committed transaction appends it.
+/// How many values of the list a read saw with this value, if it saw `at` of them before it. The value is the next one, or
+/// no committed transaction appends it.
 fn next_place(
     history: &[Transaction],
     appends: &AppendIndex,

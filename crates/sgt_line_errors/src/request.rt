@@ -213,7 +213,7 @@ fn value_fault(typed: Typed<'_>, position: u64, value: &Value) -> Message {
     }
 }
 
-// The message that the part at these positions, which has this name, is no whole number of so many digits.
+// The message that the part at these positions, which has this name, is no whole number of at most 15 digits.
 fn whole_fault(typed: Typed<'_>, positions: &[u64], name: &str, tree: &Value) -> Message {
     let found = excerpt(typed, tree)?;
     let text = format!(in typed.alloc;

@@ -296,7 +296,7 @@ fn flush<T: Sink>(sink: &mut T, gathered: &mut Vec<u8>) -> Result<(), Fault>
     Ok(())
 }
 
-/// Writes the gathered text if the next line has not arrived. Then the observer is told.
+/// Writes the gathered text if the next line has not arrived, and calls the observer.
 fn flush_before_read<T: Sink, X: Observer>(
     lines: &Lines,
     sink: &mut T,
@@ -490,7 +490,7 @@ pub(crate) fn run_opened<S: Source, T: Sink, X: Observer>(
     flush(sink, &mut text)
 }
 
-/// Reads line 1 of an input of at most so many bytes, and returns the opening that it spells. Line 1 is then the line
+/// Reads line 1 of an input of at most `most` bytes, and returns the opening that it spells. Line 1 is then the line
 /// given last. A copy of it is put into `line`.
 fn open_input<S: Source>(
     alloc: Global,
@@ -522,7 +522,7 @@ fn open_input<S: Source>(
     Ok((lines, opening))
 }
 
-/// Runs a script of at most so many bytes. Line 1 and the record lines after it make the initial database. Each later
+/// Runs a script of at most `most` bytes. Line 1 and the record lines after it make the initial database. Each later
 /// line is an event or a cut, and is answered. The output mode says what is written. The observer follows the run.
 /// `line` gets a copy of the line of the fault, or of line 1.
 ///

@@ -1,12 +1,12 @@
 -- The numbers of the entries of a session's receipts.
 use Rattle.std.specs.Prelude.{ℕ, zero, suc, ◌+◌, Bool, List, [], ◌∷◌, ◌++◌, cond}
 
--- so many numbers, counting up from this one
+-- numbers, counting up from the first one
 abbrev pub counted : ℕ → ℕ → List ℕ
 counted first zero = []
 counted first (suc n) = counted first n ++ (first + n) ∷ []
 
--- all that are listed, or else so many, counting up from the first one
+-- all that are listed, or else as many as are counted, from the first one on
 abbrev pub numbers_of : Bool → List ℕ → ℕ → ℕ → List ℕ
 numbers_of is_listed listed first count = cond is_listed listed (counted first count)
 

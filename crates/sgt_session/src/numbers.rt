@@ -109,7 +109,7 @@ impl Numbers {
         self.count += 1;
     }
 
-    /// How many numbers, at most so many, one after another from an index on, are this one and those after it.
+    /// How many numbers from an index on, at most `most`, are this one and those after it.
     #[inline(always)]
     pub fn following(&self, place: usize, number: usize, most: usize) -> usize
         requires there { place + most ≤ length self.now.items }
@@ -166,7 +166,7 @@ impl Numbers {
     }
 }
 
-/// Lists so many numbers, counting up from the first one, in an empty list with capacity for them.
+/// Lists `count` numbers, counting up from the first one, in an empty list with capacity for them.
 fn list_all(listed: &mut Vec<u64>, first: usize, count: usize)
     requires empty { listed.old.items ≡ [] }
     requires spare { count ≤ vec_capacity listed.old }

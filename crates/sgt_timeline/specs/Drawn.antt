@@ -14,7 +14,7 @@ abbrev pub AreRising : ℕ → List ℕ → ℕ → Type 0
 AreRising low [] high = low ≤ high
 AreRising low (p ∷ ps) high = (low ≤ p) × AreRising (p + 1) ps high
 
--- The places that are drawn of a history of n operations: each once, in their order. One of at most so many operations is drawn
+-- The places that are drawn of a history of n operations: each once, in their order. One of at most `most` operations is drawn
 -- whole. At most 400 are drawn.
 pub record AreDrawn (most n : ℕ) (places : List ℕ) : Type 0 where
   pub once : AreRising 0 places n
@@ -25,7 +25,7 @@ pub record AreDrawn (most n : ℕ) (places : List ℕ) : Type 0 where
 abbrev pub marked : List Mark → List ℕ
 marked marks = map (λ m. m.place) marks
 
--- The picture has just one mark of each operation that is drawn, and no other. A history of at most so many operations is drawn
+-- The picture has just one mark of each operation that is drawn, and no other. A history of at most `most` operations is drawn
 -- whole.
 abbrev pub IsDrawnUpTo : ℕ → List Operation → Picture → Type 0
 IsDrawnUpTo most h p = AreDrawn most (length h) (marked p.marks.items)

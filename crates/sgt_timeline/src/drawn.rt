@@ -122,7 +122,7 @@ pub(crate) struct Drawn {
 }
 
 impl Drawn {
-    /// Those of a history: all of one of at most so many operations. Of a longer one those of the transactions that stand out, and if
+    /// Those of a history: all of one of at most `whole` operations. Of a longer one those of the transactions that stand out, and if
     /// these are too many, the operations that stand out alone; the first ones where nothing does.
     pub fn of(
         alloc: Global,

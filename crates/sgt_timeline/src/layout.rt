@@ -43,7 +43,7 @@ pub fn draw(
     draw_up_to(alloc, history, highlight, caption, MOST)
 }
 
-/// The same, of a history of up to so many operations whole, and of at most 400.
+/// The same. A history of up to `whole` operations is drawn whole, and at most 400 are drawn.
 ///
 /// # Errors
 ///

@@ -57,7 +57,7 @@ pub fn run_sessions<
     join_passes(alloc, producer, ended)
 }
 
-/// How many jobs a worker takes at once, at most so many: one, if there are several workers, so that the jobs begin in
+/// How many jobs a worker takes at once, at most `most`: one, if there are several workers, so that the jobs begin in
 /// their order.
 fn batch_size(workers: usize, most: usize) -> usize
     ensures { 0 < result }
@@ -110,7 +110,7 @@ fn team_of<'a, N: Named>(
     Ok(team)
 }
 
-/// Runs so many batches of jobs in a thread for each worker, and waits until all have ended.
+/// Runs the batches of jobs in a thread for each worker, and waits until all have ended.
 ///
 /// `NoMemory` if an allocation failed; `Spawn` if a thread could not be made: then no job was put.
 fn run_pool<

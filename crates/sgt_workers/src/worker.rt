@@ -113,7 +113,7 @@ fn next_batch<'a, W: Wait>(
     }
 }
 
-/// The jobs of the batch with this number, where each batch but the last has so many.
+/// The jobs of the batch with this number. Each batch has `batch` jobs, but for the last one.
 fn batch_at(jobs: &[Job], batch: usize, number: u32) -> &[Job] {
     let from = (number as usize).saturating_mul(batch);
     if from >= jobs.len() {

@@ -44,8 +44,8 @@ fn is_conflict_in(reply: &SgtReply) -> bool
     (reply.kind == 14 && reply.cause == 1) || (reply.kind == 7 && reply.cause == 4)
 }
 
-/// 1 if a call that has made this many tries, of which so many are made beside others, makes the next one alone: unless its thread, by the
-/// notes of the live transactions, has one of them. Else 0.
+/// 1 if a call that has made this many tries makes the next one alone, since it has made `beside` tries beside others: unless its thread,
+/// by the notes of the live transactions, has one of them. Else 0.
 pub fn sgt_desk_is_next_alone(notes: &[SgtNote], thread: u64, tries: u64, beside: u64) -> u32
     ensures alone { (result ≡ 1) ↔ ((beside ≤ tries) × (has_own notes.now thread ≡ false)) }
     ensures result { result ≤ 1 }
