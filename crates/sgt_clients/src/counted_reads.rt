@@ -57,6 +57,12 @@ pub(crate) fn count_reads(
         longest: longest_reads(alloc, history)?,
         next: next_appends(alloc, history)?,
     };
+    let tallies = tallies_of(alloc, history, &known)?;
+    add_tallies(all, &tallies)
+}
+
+/// The anomalies that the reads of committed transactions show.
+fn tallies_of(alloc: Global, history: &[Transaction], known: &Known) -> Result<Tallies, NoMemory> {
     let mut tallies = Tallies {
         unwritten: NONE,
         aborted: NONE,
@@ -66,8 +72,13 @@ pub(crate) fn count_reads(
         incompatible: NONE,
     };
     for number in 0..history.len() {
-        count_transaction(alloc, history, &known, &mut tallies, number)?;
+        count_transaction(alloc, history, known, &mut tallies, number)?;
     }
+    Ok(tallies)
+}
+
+/// Adds the anomalies that some read shows.
+fn add_tallies(all: &mut Vec<Seen>, tallies: &Tallies) -> Result<(), NoMemory> {
     add_tally(all, "unwritten", tallies.unwritten)?;
     add_tally(all, "G1a", tallies.aborted)?;
     add_tally(all, "G1b", tallies.partial)?;

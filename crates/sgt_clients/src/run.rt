@@ -1,5 +1,5 @@
 //! The command `check --model list-append`, from the bytes of a source to those of a sink.
-ghost use Rattle.std.specs.Prelude.{◌≡◌, ◌≢◌, ◌^◌, ◌+◌, ◌<◌, ◌≤◌, ℕ, List, IfOk, IfErr, IfSome, Err, take};
+ghost use Rattle.std.specs.Prelude.{◌≡◌, ◌≢◌, ◌^◌, ◌+◌, ◌<◌, ◌≤◌, ℕ, List, [], IfOk, IfErr, IfSome, OnOk, Err, take};
 ghost use Rattle.std.specs.Io.KnownBytes.{Appends};
 ghost use Rattle.sgt_check.specs.declared.fault.CheckFault.TheVariants as check_fault;
 ghost use Rattle.sgt_clients.specs.declared.fault.ClientsFault.{ClientsFault};
@@ -221,24 +221,31 @@ fn text_of(
     ensures { IfOk result (λ text. IsOutput output strict clients.now found.now text.items) }
 {
     let mut text = Vec::new(alloc);
+    append_output(alloc, &mut text, clients, found, output, strict, level)?;
+    Ok(text)
+}
+
+/// The same, appended to an empty text.
+fn append_output(
+    alloc: Global,
+    text: &mut Vec<u8>,
+    clients: &Clients,
+    found: &LevelFindings,
+    output: ClientsOutput,
+    strict: bool,
+    level: Level,
+) -> Result<(), NoMemory>
+    requires { text.old.items ≡ [] }
+    ensures { OnOk result (IsOutput output strict clients.now found.now text.new.items) }
+{
     match output {
-        ClientsOutput::Report => {
-            append_report(&mut text, clients, found, strict)?;
-            Ok(text)
-        }
-        ClientsOutput::Json => {
-            append_json(&mut text, clients, found, strict)?;
-            Ok(text)
-        }
-        ClientsOutput::Graph => {
-            append_graph(&mut text, clients, &found.finding)?;
-            Ok(text)
-        }
+        ClientsOutput::Report => append_report(text, clients, found, strict),
+        ClientsOutput::Json => append_json(text, clients, found, strict),
+        ClientsOutput::Graph => append_graph(text, clients, &found.finding),
         ClientsOutput::Timeline => {
             let mut report = Vec::new(alloc);
             append_report(&mut report, clients, found, strict)?;
-            append_timeline(alloc, &mut text, clients, found, level, report.as_slice())?;
-            Ok(text)
+            append_timeline(alloc, text, clients, found, level, report.as_slice())
         }
     }
 }

@@ -57,5 +57,10 @@ pub(crate) fn unknown(typed: Typed<'_>, word: &str, known: &str) -> Message {
 
 /// A message that needs no part of the input.
 pub(crate) fn words(typed: Typed<'_>, words: &str) -> Message {
-    Ok(Some(format!(in typed.alloc; "{words}")?))
+    Ok(Some(copied(typed, words)?))
+}
+
+/// A copy of the words.
+pub(crate) fn copied(typed: Typed<'_>, words: &str) -> Result<String, NoMemory> {
+    Ok(format!(in typed.alloc; "{words}")?)
 }

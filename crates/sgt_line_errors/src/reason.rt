@@ -2,6 +2,7 @@
 use crate::brackets::wrong_end;
 use crate::excerpt::shortened;
 use crate::grammar::{Next, Open, Span, Wrong};
+use crate::message::copied;
 use crate::opening::MEMBERS;
 use crate::token::{Kind, TokenKind};
 use crate::typed::Typed;
@@ -40,7 +41,7 @@ pub(crate) fn reason(typed: Typed<'_>, wrong: &Wrong) -> Result<String, NoMemory
     }
     if let Some(text) = wrong.text_before() {
         if begins_number(rest) {
-            return Ok(format!(in typed.alloc; "a comma is missing before it")?);
+            return copied(typed, "a comma is missing before it");
         }
         let column = text.begin.saturating_add(1);
         return Ok(format!(in typed.alloc;
@@ -66,7 +67,7 @@ pub(crate) fn reason(typed: Typed<'_>, wrong: &Wrong) -> Result<String, NoMemory
         (Next::End, None, _) => line_reason(typed, wrong, rest),
         (next, top, kind) => {
             let words = words_at(next, top, kind, rest);
-            Ok(format!(in typed.alloc; "{words}")?)
+            copied(typed, words)
         }
     }
 }
@@ -85,7 +86,7 @@ fn key_words(typed: Typed<'_>, wrong: &Wrong, rest: &[u8]) -> Result<Option<Stri
     } else {
         "a key is written as two numbers, its table and its number: 2,101 for 2/101"
     };
-    Ok(Some(format!(in typed.alloc; "{words}")?))
+    Ok(Some(copied(typed, words)?))
 }
 
 // Whether these bytes begin with a digit or a minus sign.
@@ -101,7 +102,7 @@ fn ends_in_digit(text: &[u8]) -> bool {
 // What is said of a value that stands where the name of a member of this object has to.
 fn name_reason(typed: Typed<'_>, wrong: &Wrong, object: &Open) -> Result<String, NoMemory> {
     let (Some(name), Some(value)) = (object.name, object.value) else {
-        return Ok(format!(in typed.alloc; "{A_NAME}")?);
+        return copied(typed, A_NAME);
     };
     let column = value.end;
     let name = part_of(typed, name);
@@ -118,7 +119,7 @@ fn name_reason(typed: Typed<'_>, wrong: &Wrong, object: &Open) -> Result<String,
                 "{A_NAME}: the list of {shown} ended at column {column}: {hint}"
             )?)
         }
-        (Some(b'[' | b'{'), _) => Ok(format!(in typed.alloc; "{A_NAME}")?),
+        (Some(b'[' | b'{'), _) => copied(typed, A_NAME),
         _ if is_request(typed, wrong, object) => Ok(format!(in typed.alloc;
             "{A_NAME}; {A_REQUEST}"
         )?),
@@ -181,7 +182,7 @@ fn line_reason(typed: Typed<'_>, wrong: &Wrong, rest: &[u8]) -> Result<String, N
     let begins = typed.text.trim_ascii_start().first().copied();
     match words_after(wrong.token.kind, begins, has_ended_early, rest) {
         Some(words) => Ok(format!(in typed.alloc; "{LINE_ENDS}: {words}")?),
-        None => Ok(format!(in typed.alloc; "{LINE_ENDS}")?),
+        None => copied(typed, LINE_ENDS),
     }
 }
 
