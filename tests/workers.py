@@ -78,6 +78,18 @@ def fails_each_allocation_of_a_bank(sgt, _):
     return f"{count} growths refused, alone and with those behind; {faults} faults, {parts} reports with jobs without memory"
 
 
+def aborts_while_allocations_fail(sgt, _):
+    """A call is refused memory, and so are the next ten allocations: a transaction that has begun is aborted all the same."""
+    words, given, refused = (*BANK, "--history"), OPENING + '["job",1,[1,1]]\n' * 20, 11
+    count, aborted = sgt.allocations(*words, given=given), 0
+    for number in range(1, count + 1):
+        status, out, _ = sgt.run(*words, given=given, refuse_first=number, refuse_last=number + refused - 1)
+        aborted += status == 0 and any(line.startswith("a") for line in out.splitlines())
+    if not aborted:
+        raise Differs("no transaction was aborted")
+    return f"{aborted} runs of {count}"
+
+
 # Histories
 
 
@@ -278,6 +290,7 @@ def knows_a_changed_reply(_, program):
 
 CASES = [
     fails_each_allocation_of_a_bank,
+    aborts_while_allocations_fail,
     replays_banks_whose_workers_leave,
     presses_five_accounts,
     refusals_are_those_of_the_serial_run,
