@@ -6,7 +6,6 @@ use Rattle.sgt_model.specs.declared.event.Event.TheVariants as event
 use Rattle.sgt_model.specs.declared.event.Request.{Request}
 use Rattle.sgt_model.specs.declared.event.Request.TheVariants as request
 use Rattle.sgt_model.specs.declared.reply.Cause.TheVariants as cause
-use Rattle.sgt_model.specs.declared.reply.Fate.{Fate}
 use Rattle.sgt_model.specs.declared.reply.Fate.TheVariants as fate
 use Rattle.sgt_model.specs.declared.reply.Reply.{Reply}
 use Rattle.sgt_model.specs.declared.reply.Reply.TheVariants as reply
@@ -100,17 +99,11 @@ committed_in _ = None
 -- it aborts a transaction whose step would close a cycle
 abbrev pub is_by_cycle : Reply → Bool
 is_by_cycle (reply.Aborted (cause.Cycle cycle) fell) = true
-is_by_cycle (reply.Aborted (cause.Asked code) fell) = false
 is_by_cycle _ = false
-
--- the transaction was aborted in cascade
-abbrev pub is_fall : Fate → Bool
-is_fall (fate.Fell first) = true
-is_fall _ = false
 
 -- it reports that the transaction was aborted in cascade
 abbrev pub reports_fall : Reply → Bool
-reports_fall (reply.Over f) = is_fall f
+reports_fall (reply.Over (fate.Fell first)) = true
 reports_fall _ = false
 
 -- it reports a read or a write

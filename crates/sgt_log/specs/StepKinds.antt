@@ -18,6 +18,4 @@ abbrev pub kind_of : PackedEntry → StepKind
 kind_of (packed.Looked table t id v) = kind.Access
 kind_of (packed.Wrote table t id v) = kind.Access
 kind_of (packed.Ended t) = kind.End
-kind_of (packed.Started procedure count t from) = kind.Other
-kind_of (packed.Committed count t from) = kind.Other
-kind_of (packed.Other at) = kind.Other
+kind_of _ = kind.Other

@@ -141,7 +141,9 @@ impl History {
             return Err(NoMemory);
         }
         let spare = count + AHEAD;
-        reserve_lists(&mut self.entries, &mut self.tids, &mut self.values, spare)?;
+        self.entries.reserve(spare)?;
+        reserve_items(&mut self.tids, spare * MOST_TIDS)?;
+        reserve_items(&mut self.values, spare * MOST_VALUES)?;
         self.spare = spare;
         Ok(())
     }
@@ -256,21 +258,9 @@ impl History {
             // Only a copy is passed to the call, so that a reply that its caller has just made is never written to memory.
             _ => {
                 let reply = *reply;
-                self.push_other_step(t, &reply, lists)
+                self.push_any(&Event::Step(t), &reply, lists)
             }
         }
-    }
-
-    // Adds a step with a reply of any kind.
-    #[inline(never)]
-    fn push_other_step(&mut self, t: Tid, reply: &ShortReply, lists: &ReplyLists)
-        requires { 0 < self.old.spare }
-        ensures entries { self.new.entries
-            ≡ self.old.entries ++ record { event = Step t; reply = reply_with reply.now lists.now } ∷ [] }
-        ensures spare { self.new.spare + 1 ≡ self.old.spare }
-        ensures capacities { self.new.capacities ≡ self.old.capacities }
-    {
-        self.push_any(&Event::Step(t), reply, lists)
     }
 
     // Adds an entry of any kind.
@@ -568,8 +558,15 @@ impl History {
         requires there { index < length other.now.entries }
         ensures { IsTrue result ↔ (slice_get self.now.entries place ≡ slice_get other.now.entries index) }
     {
-        // Most entries are steps, and are read where they are.
-        self.is_same_step(place, other, index) || self.is_same_entry(place, other, index)
+        // Most entries are steps, and are read where they are. Of two starts or two commits nothing is unpacked.
+        self.is_same_step(place, other, index)
+            || self.entries.is_start_at(place)
+                && other.entries.is_start_at(index)
+                && self.entry(place).is_surely_same(&other.entry(index))
+            || self.entries.is_commit_at(place)
+                && other.entries.is_commit_at(index)
+                && self.entry(place).is_surely_same(&other.entry(index))
+            || self.is_same_of_any_kind(place, other, index)
     }
 
     // Whether both entries are the same step, of a frequent kind.
@@ -580,42 +577,6 @@ impl History {
         ensures { IsTrue result → slice_get self.now.entries place ≡ slice_get other.now.entries index }
     {
         self.entries.is_same_step(place, &other.entries, index)
-    }
-
-    // Whether both entries are the same, a start or a commit at first.
-    #[inline(always)]
-    fn is_same_entry(&self, place: usize, other: &History, index: usize) -> bool
-        requires here { place < length self.now.entries }
-        requires there { index < length other.now.entries }
-        ensures { IsTrue result ↔ (slice_get self.now.entries place ≡ slice_get other.now.entries index) }
-    {
-        self.is_same_start(place, other, index)
-            || self.is_same_commit(place, other, index)
-            || self.is_same_of_any_kind(place, other, index)
-    }
-
-    // Whether both entries start a transaction, and are the same. If both kinds are known, nothing is unpacked.
-    #[inline(always)]
-    fn is_same_start(&self, place: usize, other: &History, index: usize) -> bool
-        requires here { place < length self.now.entries }
-        requires there { index < length other.now.entries }
-        ensures { IsTrue result → slice_get self.now.entries place ≡ slice_get other.now.entries index }
-    {
-        self.entries.is_start_at(place)
-            && other.entries.is_start_at(index)
-            && self.entry(place).is_surely_same(&other.entry(index))
-    }
-
-    // Whether both entries commit a transaction, and are the same.
-    #[inline(always)]
-    fn is_same_commit(&self, place: usize, other: &History, index: usize) -> bool
-        requires here { place < length self.now.entries }
-        requires there { index < length other.now.entries }
-        ensures { IsTrue result → slice_get self.now.entries place ≡ slice_get other.now.entries index }
-    {
-        self.entries.is_commit_at(place)
-            && other.entries.is_commit_at(index)
-            && self.entry(place).is_surely_same(&other.entry(index))
     }
 
     // Whether both entries are the same, of any kind.
@@ -642,20 +603,14 @@ impl History {
     pub fn get(&self, place: usize) -> Option<Entry>
         ensures { result ≡ slice_get self.now.entries place }
     {
-        match self.get_entry(place) {
-            Some(entry) => Some(entry.in_full()),
-            None => None,
-        }
+        Some(self.get_entry(place)?.in_full())
     }
 
     /// The newest entry, if any.
     pub fn last(&self) -> Option<Entry>
         ensures { result ≡ slice_get (reverse self.now.entries) 0 }
     {
-        match self.last_entry() {
-            Some(entry) => Some(entry.in_full()),
-            None => None,
-        }
+        Some(self.last_entry()?.in_full())
     }
 
     /// The reply of the entry at this index.
@@ -670,33 +625,6 @@ impl History {
     pub fn last_reply(&self) -> Option<Reply>
         ensures { result ≡ option_map (λ (e : Entry). e.reply) (slice_get (reverse self.now.entries) 0) }
     {
-        match self.last_entry() {
-            Some(entry) => Some(entry.reply()),
-            None => None,
-        }
+        Some(self.last_entry()?.reply())
     }
-}
-
-// Provides capacity in the three lists for this many more entries. Their items stay, and no list loses capacity.
-fn reserve_lists(
-    entries: &mut EntryList,
-    tids: &mut Vec<Tid>,
-    values: &mut Vec<i64>,
-    spare: usize,
-) -> Result<(), NoMemory>
-    requires { spare * 64 < 2 ^ 64 }
-    ensures entries { entries.new.items ≡ entries.old.items }
-    ensures tids { (tids.new.items ≡ tids.old.items) × (vec_len tids.new ≡ vec_len tids.old) }
-    ensures values { (values.new.items ≡ values.old.items) × (vec_len values.new ≡ vec_len values.old) }
-    ensures entries_spare { entries.old.capacity ≤ entries.new.capacity }
-    ensures tids_spare { vec_capacity tids.old ≤ vec_capacity tids.new }
-    ensures values_spare { vec_capacity values.old ≤ vec_capacity values.new }
-    ensures enough { OnOk result ((length entries.new.items + spare ≤ entries.new.capacity)
-        × (vec_len tids.new + spare * 64 ≤ vec_capacity tids.new)
-        × (vec_len values.new + spare * 12 ≤ vec_capacity values.new)) }
-{
-    entries.reserve(spare)?;
-    reserve_items(tids, spare * MOST_TIDS)?;
-    reserve_items(values, spare * MOST_VALUES)?;
-    Ok(())
 }

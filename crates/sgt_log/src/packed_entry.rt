@@ -130,9 +130,7 @@ impl PackedEntry {
         match self {
             PackedEntry::Looked { .. } | PackedEntry::Wrote { .. } => StepKind::Access,
             PackedEntry::Ended(_) => StepKind::End,
-            PackedEntry::Started { .. } | PackedEntry::Committed { .. } | PackedEntry::Other(_) => {
-                StepKind::Other
-            }
+            _ => StepKind::Other,
         }
     }
 

@@ -21,9 +21,6 @@ impl StepKind {
     pub fn is_step(self) -> bool
         ensures { IsTrue result → (e : Entry) → IsOfKind self e → IsQuiet e }
     {
-        match self {
-            StepKind::Access | StepKind::End => true,
-            StepKind::Other => false,
-        }
+        matches!(self, StepKind::Access | StepKind::End)
     }
 }

@@ -101,7 +101,14 @@ impl StoredReply {
             ShortReply::Spent => StoredReply::Spent,
             ShortReply::Full => StoredReply::Full,
             ShortReply::Unknown => StoredReply::Unknown,
-            ShortReply::Over(fate) => StoredReply::over(fate, lists.cycle, tids),
+            ShortReply::Over(fate) => {
+                let path = Span::append(tids, fate_path(fate, lists.cycle));
+                StoredReply::Over {
+                    fate: *fate,
+                    count: path.count,
+                    from: path.from,
+                }
+            }
             ShortReply::Looked { key, value } => StoredReply::looked(key, value),
             ShortReply::Wrote { key, value } => StoredReply::wrote(key, value),
             ShortReply::Ended => StoredReply::Ended,
@@ -115,7 +122,15 @@ impl StoredReply {
                 }
             }
             ShortReply::Aborted(cause) => {
-                StoredReply::aborted(cause, lists.cycle, lists.fell, tids)
+                let path = Span::append(tids, cause_path(cause, lists.cycle));
+                let cascade = Span::append(tids, lists.fell);
+                StoredReply::Aborted {
+                    cause: *cause,
+                    cycle: path.count,
+                    fell: cascade.count,
+                    cycle_from: path.from,
+                    fell_from: cascade.from,
+                }
             }
             ShortReply::Refused(code) => {
                 let part = Span::append(tids, lists.fell);
@@ -166,47 +181,6 @@ impl StoredReply {
         }
     }
 
-    // The end of a transaction that is over. The path of its cycle is appended to the list of transactions.
-    #[inline(never)]
-    fn over(fate: &ShortFate, cycle: &[Tid], tids: &mut Vec<Tid>) -> Self
-        requires few { length cycle.now ≤ 32 }
-        requires spare { vec_len tids.old + 64 ≤ vec_capacity tids.old }
-        ensures reply { (values : List ℤ) → reply_of tids.new.items values result ≡ Over (full_fate fate.now cycle.now) }
-        ensures within { (v : ℕ) → IsReply (length tids.new.items) v result }
-        ensures more { HasMore tids.old.items tids.new.items }
-        ensures len { vec_len tids.new ≤ vec_len tids.old + 64 }
-        ensures capacity { vec_capacity tids.new ≡ vec_capacity tids.old }
-    {
-        let path = Span::append(tids, fate_path(fate, cycle));
-        StoredReply::Over {
-            fate: *fate,
-            count: path.count,
-            from: path.from,
-        }
-    }
-
-    // An abort. The path of its cycle, and those aborted in cascade, are appended to the list of transactions.
-    #[inline(never)]
-    fn aborted(cause: &ShortCause, cycle: &[Tid], fell: &[Tid], tids: &mut Vec<Tid>) -> Self
-        requires few { (length cycle.now ≤ 32) × (length fell.now ≤ 32) }
-        requires spare { vec_len tids.old + 64 ≤ vec_capacity tids.old }
-        ensures reply { (values : List ℤ) → reply_of tids.new.items values result ≡ Aborted (full_cause cause.now cycle.now) fell.now }
-        ensures within { (v : ℕ) → IsReply (length tids.new.items) v result }
-        ensures more { HasMore tids.old.items tids.new.items }
-        ensures len { vec_len tids.new ≤ vec_len tids.old + 64 }
-        ensures capacity { vec_capacity tids.new ≡ vec_capacity tids.old }
-    {
-        let path = Span::append(tids, cause_path(cause, cycle));
-        let cascade = Span::append(tids, fell);
-        StoredReply::Aborted {
-            cause: *cause,
-            cycle: path.count,
-            fell: cascade.count,
-            cycle_from: path.from,
-            fell_from: cascade.from,
-        }
-    }
-
     /// Whether it answers a start that starts nothing.
     pub fn refuses_start(&self) -> bool
         ensures { (tids : List ℕ) (values : List ℤ) → result ≡ refuses_start (reply_of tids values self.now) }
@@ -235,14 +209,7 @@ impl StoredReply {
     pub fn is_same_plain(&self, other: &Self) -> bool
         ensures { IsTrue result → HasNoLists self.now × (self.now ≡ other.now) }
     {
-        self.is_plain() && self.is_same(other)
-    }
-
-    /// Whether both are the same in all that is stored. If they are of one history, they are the same reply.
-    fn is_same(&self, other: &Self) -> bool
-        ensures { IsTrue result ↔ (self.now ≡ other.now) }
-    {
-        self == other
+        self.is_plain() && self == other
     }
 
     /// The reply without its lists.

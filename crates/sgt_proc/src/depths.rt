@@ -27,13 +27,7 @@ fn depth_of(statement: &Statement) -> u8
 {
     match statement {
         Statement::If { yes, no, .. } => one_deeper(depth(yes), depth(no)),
-        Statement::Look { .. }
-        | Statement::Find { .. }
-        | Statement::Put { .. }
-        | Statement::Remove { .. }
-        | Statement::Let { .. }
-        | Statement::Ask { .. }
-        | Statement::Answer { .. } => 1,
+        _ => 1,
     }
 }
 

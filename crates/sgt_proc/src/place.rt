@@ -425,12 +425,6 @@ fn branch_of<'a>(statement: &'a Statement, held: bool) -> &'a [Statement]
 {
     match statement {
         Statement::If { yes, no, .. } => { if held { yes.as_slice() } else { no.as_slice() } }
-        Statement::Look { .. }
-        | Statement::Find { .. }
-        | Statement::Put { .. }
-        | Statement::Remove { .. }
-        | Statement::Let { .. }
-        | Statement::Ask { .. }
-        | Statement::Answer { .. } => &[],
+        _ => &[],
     }
 }

@@ -21,32 +21,3 @@ pub(crate) fn row_of_two(alloc: Global, word: &str, a: Value, b: Value) -> Resul
 {
     Ok(Value::Array(vec![in alloc; Value::try_from_str(alloc, word)?, a, b]?))
 }
-
-/// The list of a word and three items.
-pub(crate) fn row_of_three(
-    alloc: Global,
-    word: &str,
-    a: Value,
-    b: Value,
-    c: Value,
-) -> Result<Value, NoMemory>
-    ensures { IfOk result (λ v. view v
-        ≡ array (item (string word.now) (item (view a) (item (view b) (item (view c) no_items))))) }
-{
-    Ok(Value::Array(vec![in alloc; Value::try_from_str(alloc, word)?, a, b, c]?))
-}
-
-/// The list of a word and four items.
-pub(crate) fn row_of_four(
-    alloc: Global,
-    word: &str,
-    a: Value,
-    b: Value,
-    c: Value,
-    d: Value,
-) -> Result<Value, NoMemory>
-    ensures { IfOk result (λ v. view v
-        ≡ array (item (string word.now) (item (view a) (item (view b) (item (view c) (item (view d) no_items)))))) }
-{
-    Ok(Value::Array(vec![in alloc; Value::try_from_str(alloc, word)?, a, b, c, d]?))
-}

@@ -9,7 +9,7 @@ ghost use Rattle.sgt_proc_json.specs.Spelling.{WordAnd, Byte, Short, SpellsTerm,
 use crate::write_cond::write_cond;
 use crate::write_expr::write_expr;
 use crate::write_number::{write_byte, write_short};
-use crate::write_row::{row_of_four, row_of_one, row_of_three, row_of_two};
+use crate::write_row::{row_of_one, row_of_two};
 use serde_json::Value;
 use sgt_model::{Cond, Expr, NoMemory, Statement};
 use std::alloc::Global;
@@ -34,8 +34,8 @@ fn write_statement(alloc: Global, statement: &Statement) -> Result<Value, NoMemo
             absent,
         } => write_find(alloc, *reg, *table, id, absent),
         Statement::Put { table, id, value } => write_put(alloc, *table, id, value),
-        Statement::Remove { table, id } => write_remove(alloc, *table, id),
-        Statement::Let { reg, value } => write_let(alloc, *reg, value),
+        Statement::Remove { table, id } => write_number_and(alloc, "remove", *table, id),
+        Statement::Let { reg, value } => write_number_and(alloc, "let", *reg, value),
         Statement::Ask { code } => write_ask(alloc, *code),
         Statement::If { cond, yes, no } => {
             let yes = write_block(alloc, yes)?;
@@ -52,14 +52,9 @@ fn write_look(alloc: Global, reg: u8, table: u8, id: &Expr, absent: u16) -> Resu
         (Byte reg ∷ Byte table ∷ SpellsTerm (expr_text id.now) ∷ Short absent ∷ []) (view v)) }
 {
     let id = write_expr(alloc, id)?;
-    row_of_four(
-        alloc,
-        "look",
-        write_byte(reg),
-        write_byte(table),
-        id,
-        write_short(absent),
-    )
+    let word = Value::try_from_str(alloc, "look")?;
+    let absent = write_short(absent);
+    Ok(Value::Array(vec![in alloc; word, write_byte(reg), write_byte(table), id, absent]?))
 }
 
 /// The tree of a find.
@@ -75,14 +70,8 @@ fn write_find(
 {
     let id = write_expr(alloc, id)?;
     let absent = write_expr(alloc, absent)?;
-    row_of_four(
-        alloc,
-        "find",
-        write_byte(reg),
-        write_byte(table),
-        id,
-        absent,
-    )
+    let word = Value::try_from_str(alloc, "find")?;
+    Ok(Value::Array(vec![in alloc; word, write_byte(reg), write_byte(table), id, absent]?))
 }
 
 /// The tree of a put.
@@ -92,25 +81,17 @@ fn write_put(alloc: Global, table: u8, id: &Expr, value: &Expr) -> Result<Value,
 {
     let id = write_expr(alloc, id)?;
     let value = write_expr(alloc, value)?;
-    row_of_three(alloc, "put", write_byte(table), id, value)
+    let word = Value::try_from_str(alloc, "put")?;
+    Ok(Value::Array(vec![in alloc; word, write_byte(table), id, value]?))
 }
 
-/// The tree of a remove.
-fn write_remove(alloc: Global, table: u8, id: &Expr) -> Result<Value, NoMemory>
-    ensures { IfOk result (λ v. WordAnd (codes "remove")
-        (Byte table ∷ SpellsTerm (expr_text id.now) ∷ []) (view v)) }
+/// The tree of a word, a number from 0 to 255 and an expression: a remove or a Let.
+fn write_number_and(alloc: Global, word: &str, number: u8, expr: &Expr) -> Result<Value, NoMemory>
+    ensures { IfOk result (λ v. WordAnd word.now
+        (Byte number ∷ SpellsTerm (expr_text expr.now) ∷ []) (view v)) }
 {
-    let id = write_expr(alloc, id)?;
-    row_of_two(alloc, "remove", write_byte(table), id)
-}
-
-/// The tree of a Let.
-fn write_let(alloc: Global, reg: u8, value: &Expr) -> Result<Value, NoMemory>
-    ensures { IfOk result (λ v. WordAnd (codes "let")
-        (Byte reg ∷ SpellsTerm (expr_text value.now) ∷ []) (view v)) }
-{
-    let value = write_expr(alloc, value)?;
-    row_of_two(alloc, "let", write_byte(reg), value)
+    let expr = write_expr(alloc, expr)?;
+    row_of_two(alloc, word, write_byte(number), expr)
 }
 
 /// The tree of an Ask.
@@ -127,7 +108,8 @@ fn write_if(alloc: Global, cond: &Cond, yes: Value, no: Value) -> Result<Value, 
         WordAnd (codes "if") (SpellsTest (cond_text cond.now) ∷ Listed (SpellsBlock ys) ∷ Listed (SpellsBlock ns) ∷ []) (view v)) }
 {
     let cond = write_cond(alloc, cond)?;
-    row_of_three(alloc, "if", cond, yes, no)
+    let word = Value::try_from_str(alloc, "if")?;
+    Ok(Value::Array(vec![in alloc; word, cond, yes, no]?))
 }
 
 /// The tree of an answer.

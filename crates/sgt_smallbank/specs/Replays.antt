@@ -32,19 +32,7 @@ CommitIsBank s past event (reply.Refused code fell) =
     (call_of past (subject event)).procedure < 5
     → (bank (call_of past (subject event)).procedure (call_of past (subject event)).args (folded s past).last ≡ Asked code)
     × ((folded s (record { event = event; reply = reply.Refused code fell } ∷ past)).last ≡ (folded s past).last)
-CommitIsBank s past event (reply.Started t) = Unit {0}
-CommitIsBank s past event reply.NoProcedure = Unit {0}
-CommitIsBank s past event reply.BadArgs = Unit {0}
-CommitIsBank s past event reply.Spent = Unit {0}
-CommitIsBank s past event reply.Full = Unit {0}
-CommitIsBank s past event reply.Unknown = Unit {0}
-CommitIsBank s past event (reply.Over ended) = Unit {0}
-CommitIsBank s past event (reply.Looked k v) = Unit {0}
-CommitIsBank s past event (reply.Wrote k v) = Unit {0}
-CommitIsBank s past event reply.Ended = Unit {0}
-CommitIsBank s past event reply.NotEnded = Unit {0}
-CommitIsBank s past event (reply.Waits t) = Unit {0}
-CommitIsBank s past event (reply.Aborted why fell) = Unit {0}
+CommitIsBank s past event _ = Unit {0}
 
 -- this holds for each entry
 abbrev pub CommitsAreBank : Configuration → List Entry → Type 0

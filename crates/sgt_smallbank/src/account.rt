@@ -41,18 +41,10 @@ pub fn opening(alloc: Global, accounts: &[Account]) -> Result<Database, BadOpeni
     match database_of(alloc, accounts) {
         Ok(database) => Ok(database),
         Err(BadOpening::Fault(fault)) => Err(BadOpening::Fault(fault)),
-        Err(BadOpening::NoMemory) => Err(without_memory(accounts)),
-    }
-}
-
-/// Why accounts are refused if an allocation failed.
-fn without_memory(accounts: &[Account]) -> BadOpening
-    requires { accounts.now ≢ [] }
-    ensures { AreRefused accounts.now result }
-{
-    match first_fault(accounts) {
-        Some(fault) => BadOpening::Fault(fault),
-        None => BadOpening::NoMemory,
+        Err(BadOpening::NoMemory) => Err(match first_fault(accounts) {
+            Some(fault) => BadOpening::Fault(fault),
+            None => BadOpening::NoMemory,
+        }),
     }
 }
 
@@ -86,29 +78,17 @@ fn fault_after(earlier: &[Account], account: &Account) -> Option<OpeningFault>
 }
 
 /// Whether one of the accounts has the name.
-#[tactic(auto, using(std::proofs::lemmas::List::Folds::list_any_more, std::proofs::lemmas::List::Folds::list_any_at))]
 fn has_name(accounts: &[Account], name: i64) -> bool
     ensures { result ≡ has_name accounts.now name }
 {
-    for account in accounts {
-        if account.name == name {
-            return true;
-        }
-    }
-    false
+    accounts.iter().any(|account| account.name == name)
 }
 
 /// Whether one of the accounts has the customer.
-#[tactic(auto, using(std::proofs::lemmas::List::Folds::list_any_more, std::proofs::lemmas::List::Folds::list_any_at))]
 fn has_customer(accounts: &[Account], customer: i64) -> bool
     ensures { result ≡ has_customer accounts.now customer }
 {
-    for account in accounts {
-        if account.customer == customer {
-            return true;
-        }
-    }
-    false
+    accounts.iter().any(|account| account.customer == customer)
 }
 
 /// The database with the rows of these accounts, or the first fault. If an allocation failed, there may be a fault.

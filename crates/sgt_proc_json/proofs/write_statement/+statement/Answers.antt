@@ -17,11 +17,11 @@ write_statement-returns-in-Put t c =
 
 pub write_statement-returns-in-Remove : goal.write_statement-returns-in-Remove
 write_statement-returns-in-Remove t c =
-    rw c.in-Remove.is (ok_then c.write_remove.result _ _ (λ v is b items others. (is, others)) c.write_remove.ensures)
+    rw c.in-Remove.is (ok_then c.write_number_and.result _ _ (λ v is b items others. (is, others)) c.write_number_and.ensures)
 
 pub write_statement-returns-in-Let : goal.write_statement-returns-in-Let
 write_statement-returns-in-Let t c =
-    rw c.in-Let.is (ok_then c.write_let.result _ _ (λ v is b items others. (is, others)) c.write_let.ensures)
+    rw c.in-Let.is (ok_then c.write_number_and-in-Let.result _ _ (λ v is b items others. (is, others)) c.write_number_and-in-Let.ensures)
 
 pub write_statement-returns-in-Ask : goal.write_statement-returns-in-Ask
 write_statement-returns-in-Ask t c =
