@@ -16,54 +16,30 @@ pub(crate) fn merged(
     history: &[Transaction],
     cycle: &[Edge],
 ) -> Result<Vec<Edge>, NoMemory> {
-    let mut short = Vec::new(alloc);
+    let mut short: Vec<Edge> = Vec::new(alloc);
     let mut left = MOST_LOOKED_AT;
     for edge in cycle {
-        push_merged(&mut short, history, &mut left, *edge)?;
-    }
-    merge_ends(&mut short, history, &mut left)?;
-    Ok(short)
-}
-
-/// Appends the edge, or merges it with the last one.
-fn push_merged(
-    short: &mut Vec<Edge>,
-    history: &[Transaction],
-    left: &mut usize,
-    edge: Edge,
-) -> Result<(), NoMemory> {
-    let Some(last) = short.pop() else {
-        return Ok(short.push(edge)?);
-    };
-    match joined(history, left, &last, &edge) {
-        Some(one) => Ok(short.push(one)?),
-        None => {
-            short.push(last)?;
-            Ok(short.push(edge)?)
+        let one = match short.last() {
+            Some(last) => joined(history, &mut left, last, edge),
+            None => None,
+        };
+        match (one, short.last_mut()) {
+            (Some(one), Some(last)) => *last = one,
+            _ => short.push(*edge)?,
         }
     }
-}
-
-/// Merges the last edge with the first one.
-fn merge_ends(
-    short: &mut Vec<Edge>,
-    history: &[Transaction],
-    left: &mut usize,
-) -> Result<(), NoMemory> {
     let Some(last) = short.pop() else {
-        return Ok(());
+        return Ok(short);
     };
     let one = match short.first() {
-        Some(first) => joined(history, left, &last, first),
+        Some(first) => joined(history, &mut left, &last, first),
         None => None,
     };
-    match (one, short.get_mut(0)) {
-        (Some(one), Some(first)) => {
-            *first = one;
-            Ok(())
-        }
-        _ => Ok(short.push(last)?),
+    match (one, short.first_mut()) {
+        (Some(one), Some(first)) => *first = one,
+        _ => short.push(last)?,
     }
+    Ok(short)
 }
 
 /// The edge from where the first begins to where the second ends, if one read shows it.
@@ -73,22 +49,29 @@ fn joined(history: &[Transaction], left: &mut usize, first: &Edge, second: &Edge
         to: second.to,
         reason: joined_reason(history, first, second)?,
     };
-    let looked_at = read_length(history, &edge);
-    if *left < looked_at {
-        return None;
-    }
-    *left = left.saturating_sub(looked_at);
-    if is_shown(history, &edge) {
-        Some(edge)
-    } else {
-        None
-    }
+    *left = left.checked_sub(read_length(history, &edge))?;
+    is_shown(history, &edge).then_some(edge)
 }
 
 /// The reason for both edges, if they may be of one key.
 fn joined_reason(history: &[Transaction], first: &Edge, second: &Edge) -> Option<Reason> {
     match (first.reason, second.reason) {
-        (Reason::InOrder { first, .. }, Reason::InOrder { .. }) => from_first(first, second.reason),
+        (
+            Reason::InOrder { first, .. },
+            Reason::InOrder {
+                second,
+                reader,
+                read,
+                ..
+            },
+        ) => {
+            Some(Reason::InOrder {
+                first,
+                second,
+                reader,
+                read,
+            })
+        }
         (Reason::InOrder { first, .. }, Reason::Seen { read, .. }) => Some(Reason::Seen {
             append: first,
             read,
@@ -108,42 +91,17 @@ fn joined_reason(history: &[Transaction], first: &Edge, second: &Edge) -> Option
     }
 }
 
-/// The reason of an order, from this append on.
-fn from_first(first: usize, reason: Reason) -> Option<Reason> {
-    match reason {
-        Reason::InOrder {
-            second,
-            reader,
-            read,
-            ..
-        } => Some(Reason::InOrder {
-            first,
-            second,
-            reader,
-            read,
-        }),
-        _ => None,
-    }
-}
-
 /// The key of the operation at the position.
 pub(crate) fn key_in(history: &[Transaction], transaction: usize, position: usize) -> Option<u32> {
-    let transaction = history.get(transaction)?;
-    match transaction.operations.get(position)? {
+    match history.get(transaction)?.operations.get(position)? {
         Operation::Append { key, .. } | Operation::Read { key, .. } => Some(*key),
     }
 }
 
 /// The position of the transaction's first append to the key.
 pub(crate) fn append_to(history: &[Transaction], transaction: usize, of: u32) -> Option<usize> {
-    let transaction = history.get(transaction)?;
-    for (position, operation) in transaction.operations.iter().enumerate() {
-        match operation {
-            Operation::Append { key, .. } if *key == of => return Some(position),
-            _ => (),
-        }
-    }
-    None
+    let mut operations = history.get(transaction)?.operations.iter();
+    operations.position(|it| matches!(it, Operation::Append { key, .. } if *key == of))
 }
 
 /// How many values the read of the edge has.
@@ -153,11 +111,9 @@ fn read_length(history: &[Transaction], edge: &Edge) -> usize {
         Reason::Missed { read, .. } => (edge.from, read),
         Reason::InOrder { reader, read, .. } => (reader, read),
     };
-    match history.get(reader) {
-        Some(transaction) => match transaction.operations.get(read) {
-            Some(Operation::Read { values, .. }) => values.len(),
-            _ => 0,
-        },
-        None => 0,
+    let transaction = history.get(reader);
+    match transaction.and_then(|it| it.operations.get(read)) {
+        Some(Operation::Read { values, .. }) => values.len(),
+        _ => 0,
     }
 }

@@ -8,13 +8,12 @@ ghost use Rattle.sgt_appends.specs.Indexes.{position_of, IsIndex};
 
 use crate::append_index::AppendIndex;
 use crate::compatible::first_incompatible;
-use crate::edges::add_edge;
 use crate::graph::links_of;
 use crate::lines::Lines;
 use crate::merge::merged;
 use crate::premises::unknown_read;
 use crate::reads::first_fault;
-use crate::search::short_cycle;
+use crate::search::{Graph, edges_along, short_cycle};
 use crate::solver::not_aborted;
 use crate::sorting::{Link, sort_within};
 use crate::transaction::Transaction;
@@ -63,16 +62,6 @@ pub fn propose(
     }
 }
 
-/// The links between transactions, barriers and the ends of the lines.
-#[derive(Drop)]
-struct Graph {
-    links: Vec<Link>,
-    /// The ends of the lines begin here.
-    ends: usize,
-    /// How many nodes there are.
-    nodes: usize,
-}
-
 /// The graph of the history and the pairs, unless a read has a fault by itself or the history cannot be judged.
 fn graph_of(
     alloc: Global,
@@ -107,25 +96,22 @@ fn ordered_graph(
         return Ok(None);
     };
     let mut links = links_of(alloc, history, appends, &lines)?;
-    shift_ends(links.as_mut_slice(), history.len(), before.barriers);
-    add_pairs(&mut links, before.pairs)?;
+    for link in links.iter_mut() {
+        link.from = shifted(link.from, history.len(), before.barriers);
+        link.to = shifted(link.to, history.len(), before.barriers);
+    }
+    for (from, to) in before.pairs {
+        links.push(Link {
+            from: *from,
+            to: *to,
+            reason: paired(),
+        })?;
+    }
     Ok(Some(Graph {
         links,
         ends: history.len().saturating_add(before.barriers),
         nodes: nodes.saturating_add(before.barriers),
     }))
-}
-
-/// Makes place for this many barriers between the transactions and the ends of the lines.
-fn shift_ends(links: &mut [Link], transactions: usize, barriers: usize) {
-    for place in 0..links.len() {
-        let link = links[place];
-        links[place] = Link {
-            from: shifted(link.from, transactions, barriers),
-            to: shifted(link.to, transactions, barriers),
-            reason: link.reason,
-        };
-    }
 }
 
 /// The node, or if it is the end of a line, that after this many barriers.
@@ -137,18 +123,6 @@ fn shifted(node: usize, transactions: usize, barriers: usize) -> usize {
     }
 }
 
-/// Adds the links of the pairs.
-fn add_pairs(links: &mut Vec<Link>, pairs: &[(usize, usize)]) -> Result<(), NoMemory> {
-    for (from, to) in pairs {
-        links.push(Link {
-            from: *from,
-            to: *to,
-            reason: paired(),
-        })?;
-    }
-    Ok(())
-}
-
 /// The reason of a link of a pair: it names no operation.
 fn paired() -> Reason {
     Reason::Seen {
@@ -157,7 +131,8 @@ fn paired() -> Reason {
     }
 }
 
-/// The cycle as edges, or a shorter one, unless two reads contradict one another.
+/// The cycle as edges, from its first link on that begins at no end of a line, or a shorter one. Nothing, if two reads
+/// contradict one another.
 fn cycle_proposal(
     alloc: Global,
     history: &[Transaction],
@@ -167,35 +142,18 @@ fn cycle_proposal(
     if first_incompatible(alloc, history)?.is_some() {
         return Ok(Proposal::Nothing);
     }
-    let edges = edges_along(alloc, graph.ends, cycle)?;
+    let edges = match cycle {
+        [first, rest @ ..] if first.from >= graph.ends => {
+            let mut turned = Vec::from_slice(alloc, rest)?;
+            turned.push(*first)?;
+            edges_along(alloc, graph.ends, turned.as_slice())?
+        }
+        _ => edges_along(alloc, graph.ends, cycle)?,
+    };
     let known = merged(alloc, history, edges.as_slice())?;
     let known = shorter_of(history, edges, known);
-    let found = short_cycle(
-        alloc,
-        history,
-        graph.links.as_slice(),
-        graph.ends,
-        graph.nodes,
-        known.as_slice(),
-    )?;
+    let found = short_cycle(alloc, history, graph, known.as_slice())?;
     Ok(Proposal::Cycle(shorter_of(history, known, found)))
-}
-
-/// The edges of the cycle, from its first link on that begins at no end of a line.
-fn edges_along(alloc: Global, ends: usize, cycle: &[Link]) -> Result<Vec<Edge>, NoMemory> {
-    let skipped = match cycle.first() {
-        Some(link) if link.from >= ends => 1,
-        _ => 0,
-    };
-    let mut edges = Vec::new(alloc);
-    let mut before = None;
-    for place in skipped..cycle.len().saturating_add(skipped) {
-        let link = cycle.get(place).or(cycle.first());
-        if let Some(link) = link {
-            before = add_edge(&mut edges, ends, before, *link)?;
-        }
-    }
-    Ok(edges)
 }
 
 /// The other cycle, if it is shorter and what was observed shows it, or else this one.
@@ -209,11 +167,7 @@ fn shorter_of(history: &[Transaction], cycle: Vec<Edge>, other: Vec<Edge>) -> Ve
 
 /// Whether what was observed shows each edge between transactions.
 fn are_shown(history: &[Transaction], edges: &[Edge]) -> bool {
-    for edge in edges {
-        let is_observed = edge.from < history.len() && edge.to < history.len();
-        if is_observed && !is_shown(history, edge) {
-            return false;
-        }
-    }
-    true
+    edges.iter().all(|edge| {
+        edge.from >= history.len() || edge.to >= history.len() || is_shown(history, edge)
+    })
 }

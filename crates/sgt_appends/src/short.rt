@@ -6,8 +6,7 @@ ghost use Rattle.std.specs.Prelude.{◌≤◌, length, IfOk};
 ghost use Rattle.sgt_appends.specs.Witnesses.{IsEdgeCycle};
 
 use crate::merge::merged;
-use crate::search::short_cycle;
-use crate::sorting::Link;
+use crate::search::{Graph, short_cycle};
 use crate::transaction::Transaction;
 use crate::witness::{Edge, is_shown_cycle};
 use sgt_model::NoMemory;
@@ -17,8 +16,7 @@ use std::alloc::Global;
 pub(crate) fn shorten(
     alloc: Global,
     history: &[Transaction],
-    links: &[Link],
-    nodes: usize,
+    graph: &Graph,
     cycle: Vec<Edge>,
 ) -> Result<Vec<Edge>, NoMemory>
     requires { IsEdgeCycle history.now cycle.items }
@@ -27,14 +25,7 @@ pub(crate) fn shorten(
 {
     let known = merged(alloc, history, cycle.as_slice())?;
     let known = shorter_of(history, cycle, known);
-    let found = short_cycle(
-        alloc,
-        history,
-        links,
-        history.len(),
-        nodes,
-        known.as_slice(),
-    )?;
+    let found = short_cycle(alloc, history, graph, known.as_slice())?;
     Ok(shorter_of(history, known, found))
 }
 

@@ -11,6 +11,7 @@ use crate::append_index::AppendIndex;
 use crate::edges::edges_of;
 use crate::graph::links_of;
 use crate::lines::Lines;
+use crate::search::Graph;
 use crate::short::shorten;
 use crate::sorting::sort;
 use crate::transaction::{Status, Transaction};
@@ -40,7 +41,9 @@ pub fn solve(
         Ok(sorted) => Ok(Ok(not_aborted(alloc, history, sorted.order.as_slice())?)),
         Err(cycle) => {
             let edges = edges_of(alloc, history, cycle.as_slice())?;
-            let short = shorten(alloc, history, links.as_slice(), nodes, edges)?;
+            let ends = history.len();
+            let graph = Graph { links, ends, nodes };
+            let short = shorten(alloc, history, &graph, edges)?;
             Ok(Err(short))
         }
     }

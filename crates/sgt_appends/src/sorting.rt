@@ -169,7 +169,7 @@ fn place(
 }
 
 /// A list of zeros, one for each node.
-fn zeros(alloc: Global, len: usize) -> Result<Vec<usize>, NoMemory>
+pub(crate) fn zeros(alloc: Global, len: usize) -> Result<Vec<usize>, NoMemory>
     ensures len { IfOk result (λ zeros. length zeros.items ≡ len) }
     ensures none { IfOk result (λ zeros. (i : ℕ) → get_or zeros.items i 0 ≡ 0) }
 {
