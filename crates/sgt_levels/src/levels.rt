@@ -8,10 +8,10 @@ ghost use Rattle.sgt_levels.specs.Commits.{IsCommittedRun, IsReadCommitted};
 ghost use Rattle.sgt_levels.specs.Answers.{AreRight, IsWritesRight, IsCommittedRight, IsSnapshotRight};
 
 use crate::replay::{is_committed_run, is_snapshot_run};
-use crate::search::{Found, Snapshots, search_commits, search_snapshots, ties_in};
+use crate::search::{Snapshots, search_commits, search_snapshots, ties_in};
 use crate::survey::{Partial, Survey};
 use crate::tie::{Tie, rules_out_committed, rules_out_partial, rules_out_snapshot};
-use crate::write_search::{WriteSearch, search_writes};
+use crate::write_search::search_writes;
 use crate::writes::{is_write_order, rules_out_uncommitted};
 use sgt_appends::{
     AppendIndex, Before, Fault, Transaction, first_fault, first_incompatible, unknown_read,
@@ -144,19 +144,13 @@ fn search_order(
     ensures { IfOk result (IsWritesRight history.now) }
 {
     match search_writes(alloc, history, appends)? {
-        WriteSearch::Order(order) => {
-            if is_write_order(alloc, history, order.as_slice())? {
-                return Ok(Writes::Order(order));
-            }
-            Ok(Writes::Open)
+        Some(Ok(order)) if is_write_order(alloc, history, order.as_slice())? => {
+            Ok(Writes::Order(order))
         }
-        WriteSearch::Ties(ties) => {
-            if rules_out_uncommitted(history, ties.as_slice()) {
-                return Ok(Writes::Cycle(ties));
-            }
-            Ok(Writes::Open)
+        Some(Err(ties)) if rules_out_uncommitted(history, ties.as_slice()) => {
+            Ok(Writes::Cycle(ties))
         }
-        WriteSearch::Nothing => Ok(Writes::Open),
+        _ => Ok(Writes::Open),
     }
 }
 
@@ -166,10 +160,7 @@ fn is_run(committed: &Committed) -> bool
 {
     match committed {
         Committed::Run(_) => true,
-        Committed::Fault { .. } => false,
-        Committed::Partial(_) => false,
-        Committed::Cycle(_) => false,
-        Committed::Open => false,
+        _ => false,
     }
 }
 
@@ -199,9 +190,7 @@ fn order_of(alloc: Global, snapshot: &Snapshot) -> Result<Option<Vec<usize>>, No
 {
     match snapshot {
         Snapshot::Run(run) => Ok(Some(Vec::from_slice(alloc, run.order.as_slice())?)),
-        Snapshot::NotCommitted => Ok(None),
-        Snapshot::Cycle(_) => Ok(None),
-        Snapshot::Open => Ok(None),
+        _ => Ok(None),
     }
 }
 
@@ -209,7 +198,7 @@ fn order_of(alloc: Global, snapshot: &Snapshot) -> Result<Option<Vec<usize>>, No
 fn committed_of(
     alloc: Global,
     history: &[Transaction],
-    survey: &Survey,
+    survey: &Survey<'_>,
     snapshot: &Snapshot,
 ) -> Result<Committed, NoMemory>
     requires once { AppendsOnce history.now }
@@ -226,7 +215,7 @@ fn committed_of(
 fn committed_alone(
     alloc: Global,
     history: &[Transaction],
-    survey: &Survey,
+    survey: &Survey<'_>,
 ) -> Result<Committed, NoMemory>
     requires { AppendsOnce history.now }
     ensures { IfOk result (IsCommittedRight history.now) }
@@ -236,20 +225,14 @@ fn committed_alone(
             return Ok(Committed::Partial(partial));
         }
     }
-    match search_commits(alloc, history, survey)? {
-        Some(Ok(order)) => {
-            if is_committed_run(alloc, history, order.as_slice())? {
-                return Ok(Committed::Run(order));
-            }
-            Ok(Committed::Open)
+    match search_commits(alloc, survey)? {
+        Some(Ok(order)) if is_committed_run(alloc, history, order.as_slice())? => {
+            Ok(Committed::Run(order))
         }
-        Some(Err(ties)) => {
-            if rules_out_committed(history, ties.as_slice()) {
-                return Ok(Committed::Cycle(ties));
-            }
-            Ok(Committed::Open)
+        Some(Err(ties)) if rules_out_committed(history, ties.as_slice()) => {
+            Ok(Committed::Cycle(ties))
         }
-        None => Ok(Committed::Open),
+        _ => Ok(Committed::Open),
     }
 }
 
@@ -267,7 +250,7 @@ fn snapshot_under(committed: &Committed, snapshot: Snapshot) -> Snapshot
 fn snapshot_of(
     alloc: Global,
     history: &[Transaction],
-    survey: &Survey,
+    survey: &Survey<'_>,
 ) -> Result<Snapshot, NoMemory>
     requires { AppendsOnce history.now }
     ensures { IfOk result (IsSnapshotRight history.now) }
@@ -279,21 +262,21 @@ fn snapshot_of(
         pairs: &[],
         barriers: 0,
     };
-    match search_snapshots(alloc, history, survey, before)? {
-        Found::Run(run) => {
+    match search_snapshots(alloc, survey, before)? {
+        Some(Ok(run)) => {
             if is_snapshot_run(alloc, history, run.order.as_slice(), run.starts.as_slice())? {
                 return Ok(Snapshot::Run(run));
             }
             Ok(Snapshot::Open)
         }
-        Found::Cycle(passages) => {
+        Some(Err(passages)) => {
             let ties = ties_in(alloc, passages.as_slice())?;
             if rules_out_snapshot(history, ties.as_slice()) {
                 return Ok(Snapshot::Cycle(ties));
             }
             Ok(Snapshot::Open)
         }
-        Found::Nothing => Ok(Snapshot::Open),
+        _ => Ok(Snapshot::Open),
     }
 }
 
@@ -302,10 +285,9 @@ fn is_no(committed: &Committed) -> bool
     ensures { (h : List Transaction) → IsTrue result → IsCommittedRight h committed.now → ¬ IsReadCommitted h }
 {
     match committed {
-        Committed::Run(_) => false,
+        Committed::Run(_) | Committed::Open => false,
         Committed::Fault { .. } => true,
         Committed::Partial(_) => true,
         Committed::Cycle(_) => true,
-        Committed::Open => false,
     }
 }

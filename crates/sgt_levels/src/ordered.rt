@@ -5,7 +5,7 @@ ghost use Rattle.std.specs.Prelude.{IfOk};
 ghost use Rattle.sgt_levels.specs.Answers.{IsOrderedRight};
 
 use crate::replay::is_snapshot_run;
-use crate::search::{Found, Snapshots, search_snapshots};
+use crate::search::{Snapshots, search_snapshots};
 use crate::survey::Survey;
 use crate::tie::{Passage, is_round};
 use sgt_appends::{AppendIndex, Before, Transaction};
@@ -35,19 +35,16 @@ pub fn ordered_run(
         return Ok(Ordered::Open);
     };
     let survey = Survey::of_history(alloc, history, &appends)?;
-    match search_snapshots(alloc, history, &survey, before)? {
-        Found::Run(run) => {
+    match search_snapshots(alloc, &survey, before)? {
+        Some(Ok(run)) => {
             if is_snapshot_run(alloc, history, run.order.as_slice(), run.starts.as_slice())? {
                 return Ok(Ordered::Run(run));
             }
             Ok(Ordered::Open)
         }
-        Found::Cycle(passages) => {
-            if is_round(history, passages.as_slice()) {
-                return Ok(Ordered::Cycle(passages));
-            }
-            Ok(Ordered::Open)
+        Some(Err(passages)) if is_round(history, passages.as_slice()) => {
+            Ok(Ordered::Cycle(passages))
         }
-        Found::Nothing => Ok(Ordered::Open),
+        _ => Ok(Ordered::Open),
     }
 }

@@ -11,20 +11,21 @@ use std::alloc::Global;
 use std::collections::BTreeMap;
 
 /// An append: its transaction, and its position there.
-type Spot = (usize, usize);
+pub type Spot = (usize, usize);
 
 /// The longest list of a key that a committed transaction saw.
 #[derive(Clone, Copy)]
-pub struct Line {
+struct Line<'a> {
     /// The number of the line among those of all keys.
-    pub number: usize,
-    /// Who saw it, and at which position.
-    pub reader: usize,
-    pub read: usize,
-    /// How many values it has.
-    pub len: usize,
+    number: usize,
+    /// A read that saw it.
+    read: Read<'a>,
     /// The place of the append of its first value.
     first: usize,
+    /// A read of the whole line, whose last value is not the reader's.
+    whole: Option<Spot>,
+    /// A read of the whole line, and the reader's first append to the key whose value is in no line.
+    waits: Option<(Spot, usize)>,
 }
 
 /// A position in a transaction, at the end of a line: a read that saw the whole line, or an append that is not in it.
@@ -47,26 +48,22 @@ pub struct Partial {
 
 /// What ties the transactions together.
 #[derive(Drop)]
-pub struct Survey {
-    /// The number of the line of each key.
-    numbers: BTreeMap<u32, usize>,
-    lines: Vec<Line>,
-    /// How many lines there are.
-    pub count: usize,
+pub struct Survey<'a> {
+    pub history: &'a [Transaction],
+    /// The line of each key.
+    lines: BTreeMap<u32, Line<'a>>,
     /// The appends of the values of the lines, one line after another. Each read of a key saw a prefix of its line.
     spots: Vec<Option<Spot>>,
     /// For each operation, one transaction after another, whether it appends a value that is in a line.
     seen: Vec<bool>,
     /// For each transaction the place of its first operation there.
-    firsts: Vec<usize>,
+    places: Vec<usize>,
     /// Which transactions take part: committed ones, and unknown ones of which a value was seen.
     pub runs: Vec<bool>,
-    /// For a key and a transaction that appends to it a value that is in no line: the position of the first such append.
-    unseen: BTreeMap<(u32, usize), usize>,
-    /// For a key a read of the whole line, whose last value is not the reader's.
-    whole: BTreeMap<u32, (usize, usize)>,
-    /// For a key a read of the whole line, whose reader appends a value that is in no line.
-    waits: BTreeMap<u32, (usize, usize)>,
+    /// The appends of those that take part, with their keys, whose values are in no line.
+    pub unseen: Vec<(u32, Spot)>,
+    /// For a key and a transaction the position of the first such append.
+    firsts: BTreeMap<(u32, usize), usize>,
     pub ties: Vec<Tie>,
     /// The reads of whole lines.
     pub enters: Vec<Visit>,
@@ -76,149 +73,91 @@ pub struct Survey {
     pub partial: Option<Partial>,
 }
 
-impl Survey {
+impl<'a> Survey<'a> {
     /// The survey of a history whose reads have no fault and are prefixes of one another.
     pub fn of_history(
         alloc: Global,
-        history: &[Transaction],
+        history: &'a [Transaction],
         appends: &AppendIndex,
     ) -> Result<Self, NoMemory> {
         let mut survey = Survey {
-            numbers: BTreeMap::new(alloc),
-            lines: Vec::new(alloc),
-            count: 0,
+            history,
+            lines: BTreeMap::new(alloc),
             spots: Vec::new(alloc),
             seen: Vec::new(alloc),
-            firsts: Vec::new(alloc),
+            places: Vec::new(alloc),
             runs: Vec::new(alloc),
-            unseen: BTreeMap::new(alloc),
-            whole: BTreeMap::new(alloc),
-            waits: BTreeMap::new(alloc),
+            unseen: Vec::new(alloc),
+            firsts: BTreeMap::new(alloc),
             ties: Vec::new(alloc),
             enters: Vec::new(alloc),
             leaves: Vec::new(alloc),
             partial: None,
         };
-        survey.find_lines(history)?;
-        survey.mark_all(history, appends)?;
-        survey.find_unseen(history)?;
-        survey.tie_reads(history)?;
-        survey.tie_unseen(history)?;
+        each_read(history, |read| survey.offer(read))?;
+        survey.mark_all(appends)?;
+        survey.find_unseen()?;
+        each_read(history, |read| survey.tie_read(read))?;
+        for index in 0..survey.unseen.len() {
+            if let Some((key, append)) = survey.unseen.get(index).copied() {
+                survey.tie_append(key, append)?;
+            }
+        }
         Ok(survey)
     }
 
-    /// Finds the line of each key.
-    fn find_lines(&mut self, history: &[Transaction]) -> Result<(), NoMemory> {
-        for number in 0..history.len() {
-            for position in 0..length_of(history, number) {
-                if let Some(read) = read_of(history, number, position) {
-                    self.offer(read)?;
-                }
-            }
-        }
-        Ok(())
+    /// How many lines there are.
+    pub fn count(&self) -> usize {
+        self.lines.len()
     }
 
     /// Makes the read the line of its key, if it saw more.
-    fn offer(&mut self, read: Read<'_>) -> Result<(), NoMemory> {
-        let known = self.numbers.get(&read.key).copied();
-        let line = Line {
-            number: known.unwrap_or(self.count),
-            reader: read.reader,
-            read: read.position,
-            len: read.seen.len(),
-            first: 0,
-        };
-        if let Some(number) = known {
-            if let Some(before) = self.lines.get_mut(number) {
-                if before.len < line.len {
-                    *before = line;
-                }
+    fn offer(&mut self, read: Read<'a>) -> Result<(), NoMemory> {
+        if let Some(line) = self.lines.get_mut(&read.key) {
+            if line.read.seen.len() < read.seen.len() {
+                line.read = read;
             }
             return Ok(());
         }
-        self.numbers.insert(read.key, line.number)?;
-        self.lines.push(line)?;
-        self.count = self.lines.len();
+        let line = Line {
+            number: self.lines.len(),
+            read,
+            first: 0,
+            whole: None,
+            waits: None,
+        };
+        self.lines.insert(read.key, line)?;
         Ok(())
     }
 
-    /// The line of the key.
-    fn line_of(&self, key: u32) -> Option<Line> {
-        let number = self.numbers.get(&key).copied()?;
-        self.lines.get(number).copied()
-    }
-
     /// Marks the transactions that take part, and the values of the lines.
-    fn mark_all(&mut self, history: &[Transaction], appends: &AppendIndex) -> Result<(), NoMemory> {
-        for transaction in history {
+    fn mark_all(&mut self, appends: &AppendIndex) -> Result<(), NoMemory> {
+        for transaction in self.history {
             self.runs.push(transaction.status == Status::Committed)?;
-            self.firsts.push(self.seen.len())?;
+            self.places.push(self.seen.len())?;
             for _ in 0..transaction.operations.len() {
                 self.seen.push(false)?;
             }
         }
-        for number in 0..self.lines.len() {
-            self.mark_line(history, appends, number)?;
-        }
-        Ok(())
-    }
-
-    /// Marks the append and its transaction.
-    fn mark_append(&mut self, by: usize, append: usize) {
-        if let Some(mark) = self.runs.get_mut(by) {
-            *mark = true;
-        }
-        if let Some(place) = self.place_of(by, append) {
-            if let Some(mark) = self.seen.get_mut(place) {
-                *mark = true;
-            }
-        }
-    }
-
-    /// The place of the operation among those of all transactions.
-    fn place_of(&self, number: usize, position: usize) -> Option<usize> {
-        self.firsts.get(number)?.checked_add(position)
-    }
-
-    /// Whether the operation appends a value that is in a line.
-    fn is_seen(&self, number: usize, position: usize) -> bool {
-        match self.place_of(number, position) {
-            Some(place) => match self.seen.get(place) {
-                Some(mark) => *mark,
-                None => false,
-            },
-            None => false,
-        }
-    }
-
-    /// Marks the values of the line of this number and their appenders, and notes where they are appended.
-    fn mark_line(
-        &mut self,
-        history: &[Transaction],
-        appends: &AppendIndex,
-        number: usize,
-    ) -> Result<(), NoMemory> {
-        let first = self.spots.len();
-        let Some(line) = self.lines.get_mut(number) else {
-            return Ok(());
-        };
-        line.first = first;
-        let Some(read) = read_of(history, line.reader, line.read) else {
-            return Ok(());
-        };
-        for value in read.seen {
-            let spot = appends.find(read.key, *value);
-            self.spots.push(spot)?;
-            if let Some((by, append)) = spot {
-                self.mark_append(by, append);
+        for line in self.lines.values_mut() {
+            line.first = self.spots.len();
+            for value in line.read.seen {
+                let spot = appends.find(line.read.key, *value);
+                self.spots.push(spot)?;
+                if let Some((by, append)) = spot {
+                    mark(self.runs.as_mut_slice(), Some(by));
+                    mark(
+                        self.seen.as_mut_slice(),
+                        place_in(self.places.as_slice(), by, append),
+                    );
+                }
             }
         }
         Ok(())
     }
 
     /// The appends of the values of the line between these indices.
-    fn spots_of(&self, line: Line, from: usize, to: usize) -> &[Option<Spot>] {
+    fn spots_of(&self, line: Line<'_>, from: usize, to: usize) -> &[Option<Spot>] {
         let from = line.first.saturating_add(from);
         let to = line.first.saturating_add(to);
         self.spots.as_slice().get(from..to).unwrap_or(&[])
@@ -226,40 +165,31 @@ impl Survey {
 
     /// Whether the transaction takes part.
     pub fn takes_part(&self, number: usize) -> bool {
-        match self.runs.get(number) {
-            Some(mark) => *mark,
-            None => false,
-        }
+        is_marked(self.runs.as_slice(), Some(number))
     }
 
     /// The key of the append at the position, if its transaction takes part and its value is in no line.
-    pub fn unseen_at(
-        &self,
-        history: &[Transaction],
-        number: usize,
-        position: usize,
-    ) -> Option<u32> {
+    pub fn unseen_at(&self, number: usize, position: usize) -> Option<u32> {
         if !self.takes_part(number) {
             return None;
         }
-        match history.get(number)?.operations.get(position)? {
+        match self.history.get(number)?.operations.get(position)? {
             Operation::Append { key, .. } => {
-                if self.is_seen(number, position) {
-                    return None;
-                }
-                Some(*key)
+                let place = place_in(self.places.as_slice(), number, position);
+                (!is_marked(self.seen.as_slice(), place)).then_some(*key)
             }
             Operation::Read { .. } => None,
         }
     }
 
-    /// Finds the first append of each transaction to each key whose value is in no line.
-    fn find_unseen(&mut self, history: &[Transaction]) -> Result<(), NoMemory> {
-        for number in 0..history.len() {
-            for position in 0..length_of(history, number) {
-                if let Some(key) = self.unseen_at(history, number, position) {
-                    if self.unseen.get(&(key, number)).is_none() {
-                        self.unseen.insert((key, number), position)?;
+    /// Finds the appends whose values are in no line, and the first one of each transaction to each key.
+    fn find_unseen(&mut self) -> Result<(), NoMemory> {
+        for number in 0..self.history.len() {
+            for position in 0..length_of(self.history, number) {
+                if let Some(key) = self.unseen_at(number, position) {
+                    self.unseen.push((key, (number, position)))?;
+                    if self.firsts.get(&(key, number)).is_none() {
+                        self.firsts.insert((key, number), position)?;
                     }
                 }
             }
@@ -267,24 +197,12 @@ impl Survey {
         Ok(())
     }
 
-    /// Adds the ties of all reads.
-    fn tie_reads(&mut self, history: &[Transaction]) -> Result<(), NoMemory> {
-        for number in 0..history.len() {
-            for position in 0..length_of(history, number) {
-                if let Some(read) = read_of(history, number, position) {
-                    self.tie_read(read)?;
-                }
-            }
-        }
-        Ok(())
-    }
-
     /// Adds the ties of the read.
-    fn tie_read(&mut self, read: Read<'_>) -> Result<(), NoMemory> {
-        let Some(line) = self.line_of(read.key) else {
+    fn tie_read(&mut self, read: Read<'a>) -> Result<(), NoMemory> {
+        let Some(line) = self.lines.get(&read.key).copied() else {
             return Ok(());
         };
-        if line.reader == read.reader && line.read == read.position {
+        if line.read.reader == read.reader && line.read.position == read.position {
             self.tie_values(line)?;
         }
         let seen = read.seen.len();
@@ -294,66 +212,44 @@ impl Survey {
                 append,
                 read: read.position,
             };
-            self.tie(from, read.reader, Ground::Observed(reason))?;
+            tie(&mut self.ties, from, read.reader, Ground::Observed(reason))?;
         }
-        match next_other(self.spots_of(line, seen, line.len), read.reader) {
-            Some((to, append)) => {
-                let reason = Reason::Missed {
-                    read: read.position,
-                    append,
-                };
-                self.tie(read.reader, to, Ground::Observed(reason))?;
-                self.note_partial(read, last, to, append);
-                Ok(())
-            }
-            None => self.enter(line, read),
-        }
+        let Some((to, append)) = next_other(
+            self.spots_of(line, seen, line.read.seen.len()),
+            read.reader,
+        ) else {
+            return self.enter(line, read);
+        };
+        let reason = Reason::Missed {
+            read: read.position,
+            append,
+        };
+        self.note_partial(Some((read.reader, read.position)), last, (to, append));
+        tie(&mut self.ties, read.reader, to, Ground::Observed(reason))
     }
 
-    /// Notes that the read is partial, if the last value that it saw is by the same transaction as the one it missed.
-    fn note_partial(
-        &mut self,
-        read: Read<'_>,
-        last: Option<(usize, usize)>,
-        to: usize,
-        missed: usize,
-    ) {
-        if let Some((by, seen)) = last {
-            if by == to && self.partial.is_none() {
+    /// Notes that the read is partial, if the same transaction has the append that it saw and the one that it missed.
+    fn note_partial(&mut self, read: Option<Spot>, seen: Option<Spot>, missed: Spot) {
+        if let (Some((reader, read)), Some((by, seen)), None) = (read, seen, self.partial) {
+            if by == missed.0 {
                 self.partial = Some(Partial {
-                    reader: read.reader,
-                    read: read.position,
+                    reader,
+                    read,
                     by,
                     seen,
-                    missed,
+                    missed: missed.1,
                 });
             }
         }
     }
 
-    /// Adds the tie, unless it leads from a transaction to itself.
-    fn tie(&mut self, from: usize, to: usize, ground: Ground) -> Result<(), NoMemory> {
-        if from != to {
-            self.ties.push(Tie { from, to, ground })?;
-        }
-        Ok(())
-    }
-
     /// Adds the ties between the appenders of the values of the line.
-    fn tie_values(&mut self, line: Line) -> Result<(), NoMemory> {
+    fn tie_values(&mut self, line: Line<'_>) -> Result<(), NoMemory> {
         let mut before = None;
-        for index in 0..line.len {
+        for index in 0..line.read.seen.len() {
             let next = self.spot_at(line, index);
-            if let Some((from, first)) = before {
-                if let Some((to, second)) = next {
-                    let reason = Reason::InOrder {
-                        first,
-                        second,
-                        reader: line.reader,
-                        read: line.read,
-                    };
-                    self.tie(from, to, Ground::Observed(reason))?;
-                }
+            if let (Some(first), Some(second)) = (before, next) {
+                tie_in_order(&mut self.ties, first, second, line.read)?;
             }
             before = next;
         }
@@ -361,104 +257,54 @@ impl Survey {
     }
 
     /// The append of the value of the line at the index.
-    fn spot_at(&self, line: Line, index: usize) -> Option<Spot> {
-        match self.spots.get(line.first.saturating_add(index)) {
-            Some(spot) => *spot,
-            None => None,
-        }
+    fn spot_at(&self, line: Line<'_>, index: usize) -> Option<Spot> {
+        *self.spots.get(line.first.saturating_add(index))?
+    }
+
+    /// The append of the line's last value.
+    fn last_of(&self, line: Line<'_>) -> Option<Spot> {
+        self.spot_at(line, line.read.seen.len().checked_sub(1)?)
     }
 
     /// Notes that the read saw the whole line.
-    fn enter(&mut self, line: Line, read: Read<'_>) -> Result<(), NoMemory> {
+    fn enter(&mut self, line: Line<'a>, read: Read<'a>) -> Result<(), NoMemory> {
         self.enters.push(Visit {
             line: line.number,
             transaction: read.reader,
             position: read.position,
         })?;
-        if self.whole.get(&read.key).is_none()
-            && read.seen.len() == line.len
-            && !self.ends_with_own(line, read)
-        {
-            self.whole.insert(read.key, (read.reader, read.position))?;
-        }
-        if self.waits.get(&read.key).is_none()
-            && self.unseen.get(&(read.key, read.reader)).is_some()
-        {
-            self.waits.insert(read.key, (read.reader, read.position))?;
-        }
-        Ok(())
-    }
-
-    /// Whether the last value of the line is the reader's own.
-    fn ends_with_own(&self, line: Line, read: Read<'_>) -> bool {
-        match self.last_of(line) {
-            Some((by, _)) => by == read.reader,
-            None => false,
-        }
-    }
-
-    /// The append of the line's last value.
-    fn last_of(&self, line: Line) -> Option<Spot> {
-        self.spot_at(line, line.len.checked_sub(1)?)
-    }
-
-    /// Adds the ties of all appends that are in no line.
-    fn tie_unseen(&mut self, history: &[Transaction]) -> Result<(), NoMemory> {
-        for number in 0..history.len() {
-            for position in 0..length_of(history, number) {
-                if let Some(key) = self.unseen_at(history, number, position) {
-                    self.tie_append(key, number, position)?;
-                }
+        let is_whole = read.seen.len() == line.read.seen.len();
+        let ends_with_own = self.last_of(line).is_some_and(|it| it.0 == read.reader);
+        let first = self.firsts.get(&(read.key, read.reader)).copied();
+        if let Some(line) = self.lines.get_mut(&read.key) {
+            let read = (read.reader, read.position);
+            if line.whole.is_none() && is_whole && !ends_with_own {
+                line.whole = Some(read);
+            }
+            if line.waits.is_none() {
+                line.waits = first.map(|first| (read, first));
             }
         }
         Ok(())
     }
 
     /// Adds the ties of the append, whose value is not in the line of the key.
-    fn tie_append(&mut self, key: u32, number: usize, position: usize) -> Result<(), NoMemory> {
-        let Some(line) = self.line_of(key) else {
+    fn tie_append(&mut self, key: u32, append: Spot) -> Result<(), NoMemory> {
+        let Some(line) = self.lines.get(&key).copied() else {
             return Ok(());
         };
+        let (number, position) = append;
         self.leaves.push(Visit {
             line: line.number,
             transaction: number,
             position,
         })?;
-        if let Some((from, first)) = self.last_of(line) {
-            let ground = Ground::Late {
-                first,
-                second: position,
-                reader: line.reader,
-                read: line.read,
-            };
-            self.tie(from, number, ground)?;
-            self.note_cut(key, from, first, number, position);
+        let last = self.last_of(line);
+        self.note_partial(line.whole, last, append);
+        if let Some(first) = last {
+            tie_late(&mut self.ties, first, append, line.read)?;
         }
-        self.tie_waiting(key, number, position)
-    }
-
-    /// Notes that a read of the whole line is partial, if its last value is by the appender of this one.
-    fn note_cut(&mut self, key: u32, by: usize, seen: usize, number: usize, missed: usize) {
-        if by != number || self.partial.is_some() {
-            return;
-        }
-        if let Some((reader, read)) = self.whole.get(&key).copied() {
-            self.partial = Some(Partial {
-                reader,
-                read,
-                by,
-                seen,
-                missed,
-            });
-        }
-    }
-
-    /// Adds the tie to the append from a transaction that read the whole line and appends to the key as well.
-    fn tie_waiting(&mut self, key: u32, number: usize, position: usize) -> Result<(), NoMemory> {
-        let Some((from, read)) = self.waits.get(&key).copied() else {
-            return Ok(());
-        };
-        let Some(first) = self.unseen.get(&(key, from)).copied() else {
+        let Some(((from, read), first)) = line.waits else {
             return Ok(());
         };
         let ground = Ground::Wait {
@@ -467,8 +313,25 @@ impl Survey {
             read,
             append: position,
         };
-        self.tie(from, number, ground)
+        tie(&mut self.ties, from, number, ground)
     }
+}
+
+/// Calls the function with each read of a committed transaction.
+pub fn each_read<'a, F: FnMut(Read<'a>) -> Result<(), NoMemory>>(
+    history: &'a [Transaction],
+    mut call: F,
+) -> Result<(), NoMemory>
+    requires { F.IsAlwaysCallable call }
+{
+    for number in 0..history.len() {
+        for position in 0..length_of(history, number) {
+            if let Some(read) = read_of(history, number, position) {
+                call(read)?;
+            }
+        }
+    }
+    Ok(())
 }
 
 /// How many operations the transaction has.
@@ -481,26 +344,77 @@ pub fn length_of(history: &[Transaction], number: usize) -> usize
     }
 }
 
+/// The place of the operation among those of all transactions. `places` has those of the transactions' first ones.
+fn place_in(places: &[usize], number: usize, position: usize) -> Option<usize> {
+    places.get(number)?.checked_add(position)
+}
+
+/// Sets the mark at the place, if there is one.
+fn mark(marks: &mut [bool], place: Option<usize>) {
+    if let Some(mark) = place.and_then(|place| marks.get_mut(place)) {
+        *mark = true;
+    }
+}
+
+/// Whether the mark at the place is set.
+fn is_marked(marks: &[bool], place: Option<usize>) -> bool {
+    place
+        .and_then(|place| marks.get(place))
+        .copied()
+        .unwrap_or(false)
+}
+
 /// The last of these appends that is not the reader's own.
 fn last_other(spots: &[Option<Spot>], reader: usize) -> Option<Spot> {
-    for spot in spots.iter().rev() {
-        if let Some((by, append)) = *spot {
-            if by != reader {
-                return Some((by, append));
-            }
-        }
-    }
-    None
+    spots
+        .iter()
+        .rev()
+        .find_map(|spot| spot.filter(|it| it.0 != reader))
 }
 
 /// The first of these appends that is not the reader's own.
 fn next_other(spots: &[Option<Spot>], reader: usize) -> Option<Spot> {
-    for spot in spots {
-        if let Some((by, append)) = *spot {
-            if by != reader {
-                return Some((by, append));
-            }
-        }
+    spots
+        .iter()
+        .find_map(|spot| spot.filter(|it| it.0 != reader))
+}
+
+/// Adds the tie, unless it leads from a transaction to itself.
+pub fn tie(ties: &mut Vec<Tie>, from: usize, to: usize, ground: Ground) -> Result<(), NoMemory> {
+    if from != to {
+        ties.push(Tie { from, to, ground })?;
     }
-    None
+    Ok(())
+}
+
+/// Adds the tie between appends of which the read saw the one before the other.
+pub fn tie_in_order(
+    ties: &mut Vec<Tie>,
+    (from, first): Spot,
+    (to, second): Spot,
+    read: Read<'_>,
+) -> Result<(), NoMemory> {
+    let reason = Reason::InOrder {
+        first,
+        second,
+        reader: read.reader,
+        read: read.position,
+    };
+    tie(ties, from, to, Ground::Observed(reason))
+}
+
+/// Adds the tie between appends of which the read saw the one and not the other.
+pub fn tie_late(
+    ties: &mut Vec<Tie>,
+    (from, first): Spot,
+    (to, second): Spot,
+    read: Read<'_>,
+) -> Result<(), NoMemory> {
+    let ground = Ground::Late {
+        first,
+        second,
+        reader: read.reader,
+        read: read.position,
+    };
+    tie(ties, from, to, ground)
 }

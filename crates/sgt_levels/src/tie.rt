@@ -73,17 +73,19 @@ pub fn is_round(history: &[Transaction], passages: &[Passage]) -> bool {
 
 /// Whether a miss may come after the passage, if it may come next. `waits` says whether the passage itself may be a miss.
 fn pass(history: &[Transaction], passage: &Passage, waits: bool) -> Option<bool> {
-    match passage.why {
-        Some(ground) => {
-            let tie = Tie {
-                from: passage.from,
-                to: passage.to,
-                ground,
-            };
-            step(history, &tie, waits)
-        }
+    match tie_of(passage) {
+        Some(tie) => step(history, &tie, waits),
         None => Some(true),
     }
+}
+
+/// The tie of the passage, if it has a ground.
+pub fn tie_of(passage: &Passage) -> Option<Tie> {
+    Some(Tie {
+        from: passage.from,
+        to: passage.to,
+        ground: passage.why?,
+    })
 }
 
 /// What each tie of a cycle shows.

@@ -30,49 +30,27 @@ pub fn unseen_appends(alloc: Global, history: &[Transaction]) -> Result<Option<U
         return Ok(None);
     };
     let survey = Survey::of_history(alloc, history, &appends)?;
-    if let Some(found) = find(alloc, history, &survey)? {
-        if are_unseen(history, found) {
-            return Ok(Some(found));
-        }
+    match find(alloc, &survey)? {
+        Some(found) if are_unseen(history, found) => Ok(Some(found)),
+        _ => Ok(None),
     }
-    Ok(None)
 }
 
 /// Two appends to one key that are in no line.
-fn find(
-    alloc: Global,
-    history: &[Transaction],
-    survey: &Survey,
-) -> Result<Option<Unseen>, NoMemory> {
+fn find(alloc: Global, survey: &Survey<'_>) -> Result<Option<Unseen>, NoMemory> {
     let mut before = BTreeMap::new(alloc);
-    for number in 0..history.len() {
-        if let Some(found) = find_in(history, survey, &mut before, number)? {
-            return Ok(Some(found));
-        }
-    }
-    Ok(None)
-}
-
-/// An append of the transaction that is in no line, with one of another transaction. `before` has the last one of each key.
-fn find_in(
-    history: &[Transaction],
-    survey: &Survey,
-    before: &mut BTreeMap<u32, (usize, usize)>,
-    number: usize,
-) -> Result<Option<Unseen>, NoMemory> {
-    for second in 0..length_of(history, number) {
-        if let Some((key, _)) = append_of(history, number, second) {
-            if survey.unseen_at(history, number, second).is_some() {
-                if let Some((one, first)) = before.insert(key, (number, second))? {
-                    if one != number {
-                        return Ok(Some(Unseen {
-                            one,
-                            first,
-                            other: number,
-                            second,
-                        }));
-                    }
+    for (key, (other, second)) in survey.unseen.as_slice() {
+        if has_committed(survey.history, *other) {
+            match before.insert(*key, (*other, *second))? {
+                Some((one, first)) if one != *other => {
+                    return Ok(Some(Unseen {
+                        one,
+                        first,
+                        other: *other,
+                        second: *second,
+                    }));
                 }
+                _ => (),
             }
         }
     }
