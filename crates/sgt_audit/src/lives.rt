@@ -3,7 +3,7 @@ ghost use Rattle.std.specs.Prelude.{◌≡◌, ℕ, ◌<◌, Bool, true, cond, n
 ghost use Rattle.std.specs.List.{list_any};
 ghost use Rattle.std.specs.Option.{option_map};
 ghost use Rattle.sgt_model.specs.declared.entry.Entry.{Entry};
-ghost use Rattle.sgt_model.specs.Fates.{concerns, ending_in};
+ghost use Rattle.sgt_model.specs.Fates.{ending_in};
 ghost use Rattle.sgt_model.specs.Configurations.{Configuration};
 ghost use Rattle.sgt_model.specs.Legality.{Legal, LegalReply};
 ghost use Rattle.sgt_audit.specs.Lives.{AreLives, started_life, ended_life, life_after};
@@ -55,7 +55,9 @@ fn end_those(lives: &mut Vec<Life>, number: usize, entry: &EntryRef<'_>)
 {
     if entry.is_ending() {
         end_fallen(lives, number, entry.fell());
-        end_subject(lives, number, entry, entry.is_by_cycle());
+        if let Some(t) = entry.named() {
+            end_one(lives, number, t, entry.is_by_cycle());
+        }
     }
 }
 
@@ -68,18 +70,6 @@ fn end_fallen(lives: &mut Vec<Life>, number: usize, fell: &[Tid])
 {
     for t in fell {
         end_one(lives, number, *t, true);
-    }
-}
-
-/// Ends the row of the transaction that the entry's event names.
-fn end_subject(lives: &mut Vec<Life>, number: usize, entry: &EntryRef<'_>, failed: bool)
-    ensures rows { (t : ℕ) → slice_get lives.new.items t
-        ≡ option_map (λ life. cond (concerns entry.now.event t) (ended_life number failed life) life)
-        (slice_get lives.old.items t) }
-    ensures count { vec_len lives.new ≡ vec_len lives.old }
-{
-    if let Some(t) = entry.named() {
-        end_one(lives, number, t, failed);
     }
 }
 

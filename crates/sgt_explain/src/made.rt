@@ -44,14 +44,8 @@ pub(crate) fn accesses_before(history: &IndexedHistory, place: usize, t: Tid) ->
     ensures none { (n : ℕ) → result ≤ n → n < place → IsBy (placed_access history.now n) t → ⊥ }
 {
     match made_at(history, place) {
-        Some(made) => {
-            if made.by == t {
-                history.link(place)
-            } else {
-                place
-            }
-        }
-        None => place,
+        Some(made) if made.by == t => history.link(place),
+        _ => place,
     }
 }
 

@@ -6,129 +6,104 @@ use itoa::{Buffer, Integer};
 use sgt_model::{Key, Kind};
 use std::alloc::AllocError;
 
-/// Appends the line of an edge of the cycle by which the entry at this position aborts a transaction. If its later
-/// access was about to be made, the line reads `line 12: 1 would write 2/101, which 0 read at line 8 and wrote at
-/// line 10`. Else it reads `line 12: 0 wrote 2/102 at line 10, which 1 read at line 7`. The line of the abort comes
-/// first. The list is as for `append_explanation`.
-pub fn append_edge(
-    text: &mut Vec<u8>,
-    edge: &CycleEdge,
-    place: usize,
-    lines: &[u64],
-) -> Result<(), AllocError> {
-    append_place(text, b"", place, lines)?;
-    append_accesses(text, edge, lines)
+/// The lines that explain the entry at a position.
+#[derive(Drop)]
+pub(crate) struct Explained<'a> {
+    /// Their text.
+    pub text: Vec<u8>,
+    /// The position of the entry.
+    pub place: usize,
+    /// The numbers of the lines of entries, as for `append_explanation`.
+    pub lines: &'a [u64],
 }
 
-/// Appends the line of an edge because of which the commit at this position waits, as
-/// `line 12: 1 waits for 0: 1 read 2/101 at line 9, which 0 wrote at line 7`. The list is as for `append_explanation`.
-pub fn append_wait(
-    text: &mut Vec<u8>,
-    edge: &CycleEdge,
-    place: usize,
-    lines: &[u64],
-) -> Result<(), AllocError> {
-    append_place(text, b"", place, lines)?;
-    append_number(text, b": ", edge.to.0)?;
-    append_number(text, b" waits for ", edge.from.0)?;
-    append_accesses(text, edge, lines)
-}
+impl Explained<'_> {
+    /// Appends the line of an edge of the cycle by which the entry aborts a transaction. If its later access was about
+    /// to be made, the line reads `line 12: 1 would write 2/101, which 0 read at line 8 and wrote at line 10`. Else it
+    /// reads `line 12: 0 wrote 2/102 at line 10, which 1 read at line 7`. The line of the abort comes first.
+    pub fn append_edge(&mut self, edge: &CycleEdge) -> Result<(), AllocError> {
+        self.append_place(b"", self.place)?;
+        self.append_accesses(edge)
+    }
 
-/// Appends the line of a read of an uncommitted value on which the code at this position may rest, as
-/// `line 12: the code may rest on an uncommitted value: 1 read 2/101 of 0 at line 9`. The list is as there.
-pub fn append_unsettled(
-    text: &mut Vec<u8>,
-    read: &SourceRead,
-    place: usize,
-    lines: &[u64],
-) -> Result<(), AllocError> {
-    append_place(text, b"", place, lines)?;
-    text.extend_from_slice(b": the code may rest on an uncommitted value")?;
-    append_read(text, read, lines)
-}
+    /// Appends the line of an edge because of which the entry's commit waits, as
+    /// `line 12: 1 waits for 0: 1 read 2/101 at line 9, which 0 wrote at line 7`.
+    pub fn append_wait(&mut self, edge: &CycleEdge) -> Result<(), AllocError> {
+        self.append_place(b"", self.place)?;
+        append_number(&mut self.text, b": ", edge.to.0)?;
+        append_number(&mut self.text, b" waits for ", edge.from.0)?;
+        self.append_accesses(edge)
+    }
 
-// Appends both accesses of an edge, and ends the line.
-fn append_accesses(text: &mut Vec<u8>, edge: &CycleEdge, lines: &[u64]) -> Result<(), AllocError> {
-    append_number(text, b": ", edge.to.0)?;
-    append_later(text, edge, lines)?;
-    append_number(text, b", which ", edge.from.0)?;
-    append_earlier(text, &edge.earlier, lines)?;
-    text.extend_from_slice(b"\n")
-}
+    /// Appends the line of a read of an uncommitted value on which the entry's code may rest, as
+    /// `line 12: the code may rest on an uncommitted value: 1 read 2/101 of 0 at line 9`.
+    pub fn append_unsettled(&mut self, read: &SourceRead) -> Result<(), AllocError> {
+        self.append_place(b"", self.place)?;
+        self.text
+            .extend_from_slice(b": the code may rest on an uncommitted value")?;
+        self.append_read(read)
+    }
 
-/// Appends the line of a transaction that the entry at this position aborts in cascade: its read from one that is
-/// aborted there, as `line 12: 3 read 2/101 of 1 at line 9`. The line of the abort comes first. The list is as there.
-pub fn append_source(
-    text: &mut Vec<u8>,
-    source: &SourceRead,
-    place: usize,
-    lines: &[u64],
-) -> Result<(), AllocError> {
-    append_place(text, b"", place, lines)?;
-    append_read(text, source, lines)
-}
+    /// Appends the line of a transaction that the entry aborts in cascade: its read from one that is aborted there, as
+    /// `line 12: 3 read 2/101 of 1 at line 9`. The line of the abort comes first.
+    pub fn append_source(&mut self, source: &SourceRead) -> Result<(), AllocError> {
+        self.append_place(b"", self.place)?;
+        self.append_read(source)
+    }
 
-// Appends a read of another transaction's value, and ends the line.
-fn append_read(text: &mut Vec<u8>, read: &SourceRead, lines: &[u64]) -> Result<(), AllocError> {
-    append_number(text, b": ", read.reader.0)?;
-    append_key(text, b" read ", read.key)?;
-    append_number(text, b" of ", read.source.0)?;
-    append_place(text, b" at ", read.place, lines)?;
-    text.extend_from_slice(b"\n")
-}
+    // Appends both accesses of an edge, and ends the line.
+    fn append_accesses(&mut self, edge: &CycleEdge) -> Result<(), AllocError> {
+        append_number(&mut self.text, b": ", edge.to.0)?;
+        self.append_later(edge)?;
+        append_number(&mut self.text, b", which ", edge.from.0)?;
+        self.append_earlier(&edge.earlier)?;
+        self.text.extend_from_slice(b"\n")
+    }
 
-// Appends what the later access of an edge does, or would have done.
-fn append_later(text: &mut Vec<u8>, edge: &CycleEdge, lines: &[u64]) -> Result<(), AllocError> {
-    match edge.place {
-        Some(place) => {
-            append_key(text, done_by(edge.kind), edge.key)?;
-            append_place(text, b" at ", place, lines)
+    // Appends a read of another transaction's value, and ends the line.
+    fn append_read(&mut self, read: &SourceRead) -> Result<(), AllocError> {
+        append_number(&mut self.text, b": ", read.reader.0)?;
+        append_key(&mut self.text, b" read ", read.key)?;
+        append_number(&mut self.text, b" of ", read.source.0)?;
+        self.append_place(b" at ", read.place)?;
+        self.text.extend_from_slice(b"\n")
+    }
+
+    // Appends what the later access of an edge does, or would have done.
+    fn append_later(&mut self, edge: &CycleEdge) -> Result<(), AllocError> {
+        let words = match (edge.kind, edge.place) {
+            (Kind::Look, Some(_)) => b" read ".as_slice(),
+            (Kind::Store, Some(_)) => b" wrote ".as_slice(),
+            (Kind::Look, None) => b" would read ".as_slice(),
+            (Kind::Store, None) => b" would write ".as_slice(),
+        };
+        append_key(&mut self.text, words, edge.key)?;
+        match edge.place {
+            Some(place) => self.append_place(b" at ", place),
+            None => Ok(()),
         }
-        None => append_key(text, wanted_by(edge.kind), edge.key),
     }
-}
 
-// The words for an access that was made.
-fn done_by(kind: Kind) -> &'static [u8] {
-    match kind {
-        Kind::Look => b" read ",
-        Kind::Store => b" wrote ",
-    }
-}
-
-// The words for an access that was about to be made.
-fn wanted_by(kind: Kind) -> &'static [u8] {
-    match kind {
-        Kind::Look => b" would read ",
-        Kind::Store => b" would write ",
-    }
-}
-
-// Appends the earlier accesses of an edge.
-fn append_earlier(text: &mut Vec<u8>, earlier: &Earlier, lines: &[u64]) -> Result<(), AllocError> {
-    match (earlier.looked, earlier.stored) {
-        (Some(looked), Some(stored)) => {
-            append_place(text, b" read at ", looked, lines)?;
-            append_place(text, b" and wrote at ", stored, lines)
+    // Appends the earlier accesses of an edge.
+    fn append_earlier(&mut self, earlier: &Earlier) -> Result<(), AllocError> {
+        match (earlier.looked, earlier.stored) {
+            (Some(looked), Some(stored)) => {
+                self.append_place(b" read at ", looked)?;
+                self.append_place(b" and wrote at ", stored)
+            }
+            (Some(looked), None) => self.append_place(b" read at ", looked),
+            (None, Some(stored)) => self.append_place(b" wrote at ", stored),
+            (None, None) => Ok(()),
         }
-        (Some(looked), None) => append_place(text, b" read at ", looked, lines),
-        (None, Some(stored)) => append_place(text, b" wrote at ", stored, lines),
-        (None, None) => Ok(()),
     }
-}
 
-// Appends words and the line of the entry at a position.
-fn append_place(
-    text: &mut Vec<u8>,
-    words: &[u8],
-    place: usize,
-    lines: &[u64],
-) -> Result<(), AllocError> {
-    text.extend_from_slice(words)?;
-    if place < lines.len() {
-        append_number(text, b"line ", lines[place])
-    } else {
-        append_number(text, b"entry ", place as u64)
+    // Appends words and the line of the entry at a position.
+    fn append_place(&mut self, words: &[u8], place: usize) -> Result<(), AllocError> {
+        self.text.extend_from_slice(words)?;
+        match self.lines.get(place) {
+            Some(line) => append_number(&mut self.text, b"line ", *line),
+            None => append_number(&mut self.text, b"entry ", place as u64),
+        }
     }
 }
 

@@ -4,9 +4,8 @@ ghost use Rattle.std.specs.Prelude.{◌≡◌, ◌<◌, take, length, IsSome, On
 use crate::edge::pair_edge;
 use crate::indexed_history::IndexedHistory;
 use crate::source::read_from;
-use crate::text::{append_unsettled, append_wait};
+use crate::text::Explained;
 use sgt_model::{Cause, NoMemory, Reply, Tid};
-use std::alloc::AllocError;
 
 /// Appends the lines that explain the entry at this position by transactions that are live after it:
 ///
@@ -28,54 +27,29 @@ pub fn append_live_causes(
     ensures kept { take (vec_len text.old) text.new.items ≡ text.old.items }
     ensures err { OnErr result (text.new.items ≡ text.old.items) }
 {
-    let mut words = Vec::new(*text.allocator());
+    let mut explained = Explained {
+        text: Vec::new(*text.allocator()),
+        place,
+        lines,
+    };
     if let Some(waiting) = waiting_at(history, place) {
-        append_waits(&mut words, history, place, waiting, live, lines)?;
-    }
-    if let Some(reader) = coded_at(history, place) {
-        append_reads(&mut words, history, place, reader, live, lines)?;
-    }
-    text.extend_from_slice(words.as_slice())?;
-    Ok(())
-}
-
-// Appends a line for each of these that comes before the transaction whose commit waits.
-fn append_waits(
-    text: &mut Vec<u8>,
-    history: &IndexedHistory,
-    place: usize,
-    waiting: Tid,
-    live: &[Tid],
-    lines: &[u64],
-) -> Result<(), AllocError>
-    requires { place < length history.now }
-{
-    for t in live {
-        if *t != waiting {
+        for t in live {
+            if *t == waiting {
+                continue;
+            }
             if let Some(edge) = pair_edge(history, place, *t, waiting) {
-                append_wait(text, &edge, place, lines)?;
+                explained.append_wait(&edge)?;
             }
         }
     }
-    Ok(())
-}
-
-// Appends a line for each of these of which the transaction read a value.
-fn append_reads(
-    text: &mut Vec<u8>,
-    history: &IndexedHistory,
-    place: usize,
-    reader: Tid,
-    live: &[Tid],
-    lines: &[u64],
-) -> Result<(), AllocError>
-    requires { place < length history.now }
-{
-    for t in live {
-        if let Some(read) = read_from(history, place, reader, *t) {
-            append_unsettled(text, &read, place, lines)?;
+    if let Some(reader) = coded_at(history, place) {
+        for t in live {
+            if let Some(read) = read_from(history, place, reader, *t) {
+                explained.append_unsettled(&read)?;
+            }
         }
     }
+    text.extend_from_slice(explained.text.as_slice())?;
     Ok(())
 }
 
