@@ -9,7 +9,7 @@ use Rattle.sgt_input.specs.Lines.{Ending}
 use Rattle.sgt_input.specs.Ends.{End}
 use Rattle.sgt_script.specs.declared.output.Output.TheVariants.{Json}
 use Rattle.sgt_script.specs.Scripts.{Execution, ScriptOf}
-use Rattle.sgt_script.specs.JsonLaws.{JsonLaws}
+use Rattle.sgt_script.specs.RunLaws.{JsonLaws}
 use Rattle.sgt_script.proofs.RunLaws.{chain-leaves, closing-same, parts-laws}
 
 module _ (headline : HeadlineHolds) (opened : OpenedHoldValues) (settle : CommittedAreValues) (bank : ReplayIsBank) where

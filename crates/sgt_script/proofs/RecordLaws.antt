@@ -9,8 +9,7 @@ use Rattle.sgt_input.specs.Lines.{Ending}
 use Rattle.sgt_input.specs.Ends.{End}
 use Rattle.sgt_script.specs.declared.output.Output.TheVariants.{Records}
 use Rattle.sgt_script.specs.Scripts.{Execution, Closing, ScriptOf}
-use Rattle.sgt_script.specs.RunLaws.{chained}
-use Rattle.sgt_script.specs.RecordLaws.{RecordLaws}
+use Rattle.sgt_script.specs.RunLaws.{RecordLaws, chained}
 use Rattle.sgt_script.proofs.Beginnings.{no-answers}
 use Rattle.sgt_script.proofs.RunLaws.{chain-leaves, closing-same, parts-laws}
 

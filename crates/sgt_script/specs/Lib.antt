@@ -2,8 +2,6 @@ pub mod Opened
 pub mod Parts
 pub mod Scripts
 pub mod RunLaws
-pub mod RecordLaws
-pub mod JsonLaws
 pub mod Answering
 pub mod Beginnings
 pub mod Outcomes

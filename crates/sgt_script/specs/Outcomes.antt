@@ -8,10 +8,8 @@ use Rattle.sgt_script.specs.declared.output.Output.{Output}
 use Rattle.sgt_script.specs.declared.output.Output.TheVariants.{Replies, History, Records, Json}
 use Rattle.sgt_script.specs.Answering.{AnswersScriptRead}
 use Rattle.sgt_script.specs.Beginnings.{Begins, ScriptRuns}
-use Rattle.sgt_script.specs.JsonLaws.{JsonLaws}
 use Rattle.sgt_script.specs.Parts.{Answer, answers_text}
-use Rattle.sgt_script.specs.RecordLaws.{RecordLaws}
-use Rattle.sgt_script.specs.RunLaws.{HistoryLaws, RunLaws}
+use Rattle.sgt_script.specs.RunLaws.{HistoryLaws, JsonLaws, RecordLaws, RunLaws}
 use Rattle.sgt_script.specs.Scripts.{Execution, Script}
 
 -- the laws of a run, by its output mode

@@ -14,8 +14,8 @@ use Rattle.sgt_textbook.specs.Laws.{TextbookLaws}
 use Rattle.sgt_notation.specs.Transcripts.{TranscriptsSpellTextbooks, cut_comment, transcript}
 use Rattle.sgt_format.specs.ReplyText.{text}
 use Rattle.sgt_input.specs.Ends.{End}
-use Rattle.sgt_script.specs.declared.output.Output.TheVariants.{Replies}
-use Rattle.sgt_script.specs.Parts.{Answer, Replied, WasCut, StillLive, Part, answer_text, part_of, parts_of}
+use Rattle.sgt_script.specs.declared.output.Output.TheVariants.{Replies, Records, Json}
+use Rattle.sgt_script.specs.Parts.{Answer, Replied, WasCut, StillLive, Part, answer_text, answers_text, part_of, parts_of}
 use Rattle.sgt_script.specs.Scripts.{Execution, Closing}
 
 -- the line that reports the first of these results to a transaction that commits. A code has no such line
@@ -127,3 +127,20 @@ pub record HistoryLaws (run : Execution) (out : List ℕ) : Type 0 where
   pub textbooks : InEachTextbook (parts_of run.configuration run.answers)
   pub written : out ≡ transcripts (parts_of run.configuration run.answers)
   pub spelled : TranscriptsSpellTextbooks
+
+-- ---- in the output modes Records and Json
+
+-- The laws hold for each part of a run. If the run ends well, it wrote the record lines of the database that the
+-- serial run of all parts, one after another, leaves. If it ends at a fault, it wrote nothing.
+pub record RecordLaws (run : Execution) (out : List ℕ) (end : End) : Type 0 where
+  pub parts : InEachPart (parts_of run.configuration run.answers)
+  pub written : Closing Records (chained run.configuration run.answers).last end out
+
+-- The laws hold for each part of a run, so each answer is that of the serial run. The replies were written as objects,
+-- and then, if the run ends well, the record lines of the database that the serial run of all parts, one after another,
+-- leaves.
+pub record JsonLaws (run : Execution) (out : List ℕ) (end : End) : Type 0 where
+  pub parts : InEachPart (parts_of run.configuration run.answers)
+  pub last : List ℕ
+  pub closing : Closing Json (chained run.configuration run.answers).last end last
+  pub written : out ≡ answers_text Json run.answers ++ last

@@ -10,8 +10,8 @@ use crate::refused::append_refused;
 use sgt_assembly::SgtEngine;
 use sgt_explain::{IndexedHistory, Pending, Words, append_explanation, append_live_causes};
 use sgt_input::{Lines, Sink, write_all};
-use sgt_log::History;
-use sgt_model::{Event, NoMemory, Tid};
+use sgt_log::EntryRef;
+use sgt_model::{Event, NoMemory};
 use std::alloc::Global;
 use std::marker::Model;
 
@@ -93,88 +93,39 @@ impl<'a, E: Sink> Explainer<'a, E> {
         self.text.clear();
     }
 
-    // Records the line of the entry at a position, if the lines of all entries before it are recorded. Lines recorded
-    // from this position on belong to a history that was cut off.
-    fn note_line(&mut self, place: usize, line: u64) {
-        if place == 0 && !self.lines.is_empty() {
-            self.is_after_cut = true;
+    // Records the newest entry, at this position, and its line, if all entries before it are recorded. The first entry
+    // begins a new history: lines that are recorded by then belong to one that was cut off.
+    fn note(&mut self, entry: &EntryRef<'_>, place: usize, line: u64) {
+        if place == 0 {
+            self.is_after_cut = self.is_after_cut || !self.lines.is_empty();
+            self.history = IndexedHistory::new(self.alloc);
         }
         self.lines.truncate(place);
         if self.lines.len() == place {
             let _ = self.lines.push(line);
         }
-    }
-
-    // Records the entry at a position, if all entries before it are recorded. The first entry begins a new history.
-    fn note_entry(&mut self, history: &History, place: usize) {
-        if place == 0 {
-            self.history = IndexedHistory::new(self.alloc);
-        }
         if self.history.len() == place {
-            if let Some(entry) = history.get_entry(place) {
-                let _ = self.history.push(&entry);
-            }
+            let _ = self.history.push(entry);
         }
     }
 
-    // Gathers the explanation of the entry at a position, if it aborts a transaction.
-    fn explain_at(&mut self, engine: &SgtEngine, place: usize) {
-        if aborts_at(engine.history(), place) && self.append(place).is_err() {
-            self.has_lost = true;
+    // Appends for which live transactions the commit at a position waits, or on which of their values its code may
+    // rest, and why it aborts transactions. `NoMemory` if an allocation fails, or failed for an entry.
+    fn append_causes(&mut self, engine: &SgtEngine, place: usize) -> Result<(), NoMemory> {
+        if self.history.len() <= place {
+            return Err(NoMemory);
         }
-    }
-
-    // Gathers which procedure aborted the transaction of the newest entry, of this line, with a code, if one did.
-    fn explain_code(&mut self, engine: &SgtEngine, line: u64) {
-        if let Some(newest) = engine.history().last() {
-            if append_coded(&mut self.text, &newest, &self.history, self.words, line).is_err() {
-                self.has_lost = true;
-            }
-        }
-    }
-
-    // Gathers for which live transactions the commit at a position waits, or on which of their values its code may rest.
-    fn explain_live(&mut self, engine: &SgtEngine, place: usize) {
-        let concerns_live = aborts_at(engine.history(), place) || waits_at(engine.history(), place);
+        let lines = self.lines.as_slice();
         let live = engine.sched().live();
-        if concerns_live && self.append_live(live.as_slice(), place).is_err() {
-            self.has_lost = true;
-        }
-    }
-
-    // Appends that. If an allocation fails, or failed for an entry, it appends nothing.
-    fn append_live(&mut self, live: &[Tid], place: usize) -> Result<(), NoMemory> {
-        if self.history.len() <= place {
-            return Err(NoMemory);
-        }
-        append_live_causes(
+        let caused = append_live_causes(
             &mut self.text,
             &self.history,
             place,
-            live,
-            self.lines.as_slice(),
-        )
-    }
-
-    // Gathers why the newest entry, of this line, is refused, if it is.
-    fn explain_refusal(&mut self, engine: &SgtEngine, line: u64) {
-        if append_refused(&mut self.text, engine, line, self.is_after_cut).is_err() {
-            self.has_lost = true;
-        }
-    }
-
-    // Appends that explanation. If an allocation fails, or failed for an entry, it appends nothing.
-    fn append(&mut self, place: usize) -> Result<(), NoMemory> {
-        if self.history.len() <= place {
-            return Err(NoMemory);
-        }
-        append_explanation(
-            &mut self.text,
-            &self.history,
-            place,
-            self.pending,
-            self.lines.as_slice(),
-        )
+            live.as_slice(),
+            lines,
+        );
+        append_explanation(&mut self.text, &self.history, place, self.pending, lines)?;
+        caused
     }
 }
 
@@ -184,15 +135,22 @@ impl<E: Sink> Observer for Explainer<'_, E> {
     }
 
     fn answered(&mut self, engine: &SgtEngine, lines: &Lines) {
+        let history = engine.history();
+        let Some(place) = history.len().checked_sub(1) else {
+            return;
+        };
+        let entry = history.entry(place);
         let line = lines.number();
-        let entries = engine.history().len();
-        if entries > 0 {
-            self.note_line(entries - 1, line);
-            self.note_entry(engine.history(), entries - 1);
-            self.explain_code(engine, line);
-            self.explain_live(engine, entries - 1);
-            self.explain_at(engine, entries - 1);
-            self.explain_refusal(engine, line);
+        self.note(&entry, place, line);
+        let coded = append_coded(&mut self.text, &entry, &self.history, self.words, line);
+        let caused = if entry.is_wait() || (entry.is_ending() && !entry.is_commit()) {
+            self.append_causes(engine, place)
+        } else {
+            Ok(())
+        };
+        let refused = append_refused(&mut self.text, engine, line, self.is_after_cut);
+        if coded.is_err() || caused.is_err() || refused.is_err() {
+            self.has_lost = true;
         }
     }
 
@@ -204,21 +162,5 @@ impl<E: Sink> Observer for Explainer<'_, E> {
         if append_live(self.alloc, &mut self.text, engine.sched().live().as_slice()).is_err() {
             self.has_lost = true;
         }
-    }
-}
-
-// Whether the entry at a position is a commit that waits.
-fn waits_at(history: &History, place: usize) -> bool {
-    match history.get_entry(place) {
-        Some(entry) => entry.is_wait(),
-        None => false,
-    }
-}
-
-// Whether the entry at a position aborts a transaction.
-fn aborts_at(history: &History, place: usize) -> bool {
-    match history.get_entry(place) {
-        Some(entry) => entry.is_ending() && !entry.is_commit(),
-        None => false,
     }
 }

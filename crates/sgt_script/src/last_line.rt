@@ -1,5 +1,5 @@
 //! A copy of the line at which a run stopped, for whoever explains its error.
-ghost use Rattle.std.specs.Prelude.{◌≡◌, IfSome, IsFalse};
+ghost use Rattle.std.specs.Prelude.{◌≡◌, IfSome};
 
 use sgt_input::Lines;
 use std::alloc::Global;
@@ -12,14 +12,5 @@ pub(crate) fn copy_of_last(alloc: Global, lines: &Lines) -> Option<Vec<u8>>
     match copy.extend_from_slice(lines.line()) {
         Ok(()) => Some(copy),
         Err(_) => None,
-    }
-}
-
-/// Puts such a copy into `line` if the run failed.
-pub(crate) fn keep_if(failed: bool, alloc: Global, lines: &Lines, line: &mut Option<Vec<u8>>)
-    ensures { IsFalse failed → line.new ≡ line.old }
-{
-    if failed {
-        *line = copy_of_last(alloc, lines);
     }
 }

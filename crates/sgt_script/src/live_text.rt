@@ -3,7 +3,7 @@ ghost use Rattle.std.specs.Prelude.{◌≡◌, take, OnErr, vec_len};
 
 use sgt_format::append_numbered;
 use sgt_model::{NoMemory, Tid};
-use std::alloc::{AllocError, Global};
+use std::alloc::Global;
 
 /// Appends a line that lists the transactions live at the end, as `2 transactions are live at the end: 3, 7`. If none
 /// is live, it appends nothing.
@@ -13,31 +13,22 @@ pub(crate) fn append_live(alloc: Global, text: &mut Vec<u8>, live: &[Tid]) -> Re
     ensures kept { take (vec_len text.old) text.new.items ≡ text.old.items }
     ensures err { OnErr result (text.new.items ≡ text.old.items) }
 {
+    if live.is_empty() {
+        return Ok(());
+    }
     let mut line = Vec::new(alloc);
-    if !live.is_empty() {
-        append_live_line(&mut line, live)?;
-    }
-    text.extend_from_slice(line.as_slice())?;
-    Ok(())
-}
-
-// Appends the line.
-fn append_live_line(line: &mut Vec<u8>, live: &[Tid]) -> Result<(), AllocError> {
-    append_numbered(line, b"", live.len())?;
-    line.extend_from_slice(words_for(live.len()))?;
-    let mut parting: &'static [u8] = b" ";
-    for t in live {
-        append_numbered(line, parting, t.0)?;
-        parting = b", ";
-    }
-    line.extend_from_slice(b"\n")
-}
-
-// The words after the number of live transactions.
-fn words_for(count: usize) -> &'static [u8] {
-    if count == 1 {
+    append_numbered(&mut line, b"", live.len())?;
+    line.extend_from_slice(if live.len() == 1 {
         b" transaction is live at the end:"
     } else {
         b" transactions are live at the end:"
+    })?;
+    let mut parting: &'static [u8] = b" ";
+    for t in live {
+        append_numbered(&mut line, parting, t.0)?;
+        parting = b", ";
     }
+    line.extend_from_slice(b"\n")?;
+    text.extend_from_slice(line.as_slice())?;
+    Ok(())
 }

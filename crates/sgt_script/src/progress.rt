@@ -4,7 +4,6 @@ use crate::observer::Observer;
 use crate::options::Options;
 use sgt_assembly::SgtEngine;
 use sgt_input::Lines;
-use sgt_model::Event;
 use std::io::Eprint;
 use std::time::{Clock, Duration, Instant};
 
@@ -45,9 +44,13 @@ impl<'a, W: Clock> Progress<'a, W> {
     }
 }
 
-impl<W: Clock + Eprint> Progress<'_, W> {
+impl<W: Clock + Eprint> Observer for Progress<'_, W> {
+    fn answered(&mut self, _engine: &SgtEngine, _lines: &Lines) {
+        self.events = self.events.saturating_add(1);
+    }
+
     // Reports if the last report is long enough ago.
-    fn report(&mut self, lines: &Lines) {
+    fn written(&mut self, lines: &Lines) {
         let Ok(now) = Instant::now(self.rt) else {
             return;
         };
@@ -64,18 +67,4 @@ impl<W: Clock + Eprint> Progress<'_, W> {
             None => eprintln!(self.rt; "{} events are answered: {bytes} bytes", self.events),
         };
     }
-}
-
-impl<W: Clock + Eprint> Observer for Progress<'_, W> {
-    fn before(&mut self, _engine: &SgtEngine, _event: &Event) {}
-
-    fn answered(&mut self, _engine: &SgtEngine, _lines: &Lines) {
-        self.events = self.events.saturating_add(1);
-    }
-
-    fn written(&mut self, lines: &Lines) {
-        self.report(lines);
-    }
-
-    fn ended(&mut self, _engine: &SgtEngine) {}
 }

@@ -4,7 +4,7 @@ ghost use Rattle.std.specs.Prelude.{◌≡◌, take, OnErr, vec_len};
 use sgt_assembly::SgtEngine;
 use sgt_explain::{Refusal, append_refusal, refusal_of};
 use sgt_format::append_numbered;
-use sgt_model::{Entry, Event, NoMemory};
+use sgt_model::{Entry, Event, NoMemory, Tid};
 use sgt_proc::Ahead;
 
 /// Appends why the newest entry, of this line of the script, is refused, as
@@ -21,53 +21,38 @@ pub(crate) fn append_refused(
     ensures kept { take (vec_len text.old) text.new.items ≡ text.old.items }
     ensures err { OnErr result (text.new.items ≡ text.old.items) }
 {
+    let Some(refusal) = newest_refusal(engine) else {
+        return Ok(());
+    };
     let mut words = Vec::new(*text.allocator());
-    if let Some(refusal) = newest_refusal(engine) {
-        append_line(&mut words, engine, line, is_after_cut, &refusal)?;
+    append_numbered(&mut words, b"line ", line)?;
+    words.extend_from_slice(b": ")?;
+    match about_to_raise(engine, &refusal) {
+        Some(t) => {
+            append_numbered(&mut words, b"the procedure of ", t.0)?;
+            words.extend_from_slice(
+                b" raises a code: its next step reports it, or with a third limit of 1 its commit",
+            )?;
+        }
+        None => append_refusal(&mut words, &refusal)?,
     }
+    if is_after_cut && matches!(refusal, Refusal::Unknown(_)) {
+        words.extend_from_slice(b" since the cut")?;
+    }
+    words.extend_from_slice(b"\n")?;
     text.extend_from_slice(words.as_slice())?;
     Ok(())
 }
 
-// Whether an event is refused because the procedure of its transaction is about to raise a code.
-fn raises_code(engine: &SgtEngine, refusal: &Refusal) -> bool {
-    match refusal {
-        Refusal::NotEnded(t) => matches!(engine.sched().ahead(*t), Some(Ahead::Asks(_))),
-        _ => false,
+// The transaction whose procedure is about to raise a code, if an event is refused because of that.
+fn about_to_raise(engine: &SgtEngine, refusal: &Refusal) -> Option<Tid> {
+    let Refusal::NotEnded(t) = refusal else {
+        return None;
+    };
+    match engine.sched().ahead(*t)? {
+        Ahead::Asks(_) => Some(*t),
+        _ => None,
     }
-}
-
-// Appends that the procedure of the transaction raises a code, if the event is refused for that.
-fn append_raises(text: &mut Vec<u8>, refusal: &Refusal) -> Result<(), NoMemory> {
-    if let Refusal::NotEnded(t) = refusal {
-        append_numbered(text, b"the procedure of ", t.0)?;
-        text.extend_from_slice(
-            b" raises a code: its next step reports it, or with a third limit of 1 its commit",
-        )?;
-    }
-    Ok(())
-}
-
-// Appends the line.
-fn append_line(
-    text: &mut Vec<u8>,
-    engine: &SgtEngine,
-    line: u64,
-    is_after_cut: bool,
-    refusal: &Refusal,
-) -> Result<(), NoMemory> {
-    append_numbered(text, b"line ", line)?;
-    text.extend_from_slice(b": ")?;
-    if raises_code(engine, refusal) {
-        append_raises(text, refusal)?;
-    } else {
-        append_refusal(text, refusal)?;
-    }
-    if is_after_cut && matches!(refusal, Refusal::Unknown(_)) {
-        text.extend_from_slice(b" since the cut")?;
-    }
-    text.extend_from_slice(b"\n")?;
-    Ok(())
 }
 
 // Why the newest entry is refused, if it is.

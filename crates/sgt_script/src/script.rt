@@ -17,7 +17,7 @@ ghost use Rattle.sgt_script.specs.Beginnings.{AppendsPart, Begins, IsStop, LineR
 ghost use Rattle.sgt_script.specs.Outcomes.{CountsReads, CountsWrites, IsCutOff, IsStopped, IsWhole};
 
 use crate::json_answer::{append_cut_json, append_reply_json, append_still_live_json};
-use crate::last_line::{copy_of_last, keep_if};
+use crate::last_line::copy_of_last;
 use crate::laws::outputs_obey_laws;
 use crate::observer::Observer;
 use crate::output::Output;
@@ -253,16 +253,7 @@ fn append_was_not_cut(output: Output, text: &mut Vec<u8>) -> Result<(), NoMemory
     }
 }
 
-/// What is written after the answers of a run that ends well.
-fn last_text(alloc: Global, engine: &SgtEngine, output: Output) -> Result<Vec<u8>, NoMemory>
-    ensures { IfOk result (λ text. Last output (left_by (part_at engine.now)) text.items) }
-{
-    let mut text = Vec::new(alloc);
-    append_last(alloc, engine, output, &mut text)?;
-    Ok(text)
-}
-
-/// The same, appended to an empty text.
+/// Appends to an empty text what is written after the answers of a run that ends well.
 fn append_last(
     alloc: Global,
     engine: &SgtEngine,
@@ -486,7 +477,8 @@ pub(crate) fn run_opened<S: Source, T: Sink, X: Observer>(
     some_reply_is_legal();
     histories_go_on();
     answer_lines(alloc, lines, source, sink, engine, output, observer)?;
-    let mut text = last_text(alloc, engine, output)?;
+    let mut text = Vec::new(alloc);
+    append_last(alloc, engine, output, &mut text)?;
     flush(sink, &mut text)
 }
 
@@ -573,6 +565,8 @@ pub(crate) fn run_observed<S: Source, T: Sink, X: Observer>(
         output,
         observer,
     );
-    keep_if(ran.is_err(), alloc, &lines, line);
+    if ran.is_err() {
+        *line = copy_of_last(alloc, &lines);
+    }
     ran
 }

@@ -117,7 +117,9 @@ impl<'a, N: Named, R: Records, A: Accesses, G: Graph, T: Gate, W: Wait> Caller<
         match self.run_transaction(t) {
             Ok(attempt) => Ok(attempt),
             Err(halt) => {
-                self.quit(t);
+                // Its abort, so that no other waits for it. If it is live, this allocates nothing and succeeds. If it has
+                // ended or was aborted in cascade, the reply says so, which is one entry more, or an allocation fails.
+                let _ = self.session.make(self.rt, self.shared, &Event::Quit(t));
                 halt.into_attempt()
             }
         }
@@ -161,12 +163,6 @@ impl<'a, N: Named, R: Records, A: Accesses, G: Graph, T: Gate, W: Wait> Caller<
             Pass::Go => Ok(()),
             Pass::Leave(note) => Err(Halt::Leave(note)),
         }
-    }
-
-    /// Aborts a transaction, so that no other waits for it. If it is live, this allocates nothing and succeeds. If it
-    /// has ended or was aborted in cascade, the reply says so, which is one entry more, or an allocation fails.
-    fn quit(&mut self, t: Tid) {
-        let _ = self.session.make(self.rt, self.shared, &Event::Quit(t));
     }
 }
 

@@ -257,7 +257,7 @@ fn join_passes<N: Named>(
     ensures joined { IfOk result (λ r. r.0.unjoined ≡ 0) }
     ensures error { IfErr result IsRunError }
 {
-    if !are_expected(ended.as_slice()) {
+    if ended.iter().any(|one| !one.is_expected) {
         return Err(PoolError::Mismatch);
     }
     let Ok(mut sessions) = Vec::with_capacity(alloc, ended.len()) else {
@@ -270,14 +270,4 @@ fn join_passes<N: Named>(
         sessions.push_reserved(session);
     }
     Ok((producer, sessions))
-}
-
-/// Whether each worker got expected replies alone.
-fn are_expected<N: Named>(ended: &[Ended<N>]) -> bool {
-    for one in ended {
-        if !one.is_expected {
-            return false;
-        }
-    }
-    true
 }

@@ -1,6 +1,5 @@
 //! The report of a run, and the test that its outcomes are true.
-ghost use Rattle.std.specs.Prelude.{◌≡◌, IfOk, IfErr, OnOk, reverse};
-ghost use Rattle.sgt_audit.specs.AllOutcomes.{OutcomesStand};
+ghost use Rattle.std.specs.Prelude.{◌≡◌, IfOk, IfErr, reverse};
 ghost use Rattle.sgt_engine.specs.EngineView.{configuration_of};
 ghost use Rattle.sgt_workers.specs.Crews.{IsRunError};
 ghost use Rattle.sgt_workers.specs.Reports.{IsReportOf};
@@ -46,7 +45,19 @@ pub fn report_of<R: Records, A: Accesses, G: Graph, X: Drop>(
     let Ok(database) = engine.database(alloc) else {
         return Err(PoolError::NoMemory);
     };
-    test_outcomes(alloc, &engine, jobs, outcomes.as_slice(), workers, tries)?;
+    let Ok(stands) = audit(
+        alloc,
+        engine.history(),
+        jobs,
+        outcomes.as_slice(),
+        workers,
+        tries,
+    ) else {
+        return Err(PoolError::NoMemory);
+    };
+    if !stands {
+        return Err(PoolError::Mismatch);
+    }
     let Past { opening, history } = engine.into_past();
     Ok(Report {
         opening,
@@ -54,27 +65,4 @@ pub fn report_of<R: Records, A: Accesses, G: Graph, X: Drop>(
         outcomes,
         database,
     })
-}
-
-/// Tests whether the outcomes are true of the engine's history.
-///
-/// `Mismatch` if one is not; `NoMemory` if an allocation failed.
-fn test_outcomes<R: Records, A: Accesses, G: Graph, X: Drop>(
-    alloc: Global,
-    engine: &Engine<R, A, G>,
-    jobs: &[Job],
-    outcomes: &[Outcome<X>],
-    workers: u32,
-    tries: u32,
-) -> Result<(), PoolError>
-    ensures stand { OnOk result (OutcomesStand (reverse engine.now.past) jobs.now outcomes.now workers tries) }
-    ensures error { IfErr result IsRunError }
-{
-    let Ok(stands) = audit(alloc, engine.history(), jobs, outcomes, workers, tries) else {
-        return Err(PoolError::NoMemory);
-    };
-    if !stands {
-        return Err(PoolError::Mismatch);
-    }
-    Ok(())
 }

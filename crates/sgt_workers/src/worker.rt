@@ -136,24 +136,12 @@ fn run_batch<N: Named, R: Records, A: Accesses, G: Graph, T: Gate, W: Wait>(
         let outcome = caller.run_job(alloc, job, tries)?;
         caller.gate.finished(caller.number, job.number, &outcome);
         let leaves = matches!(outcome, Outcome::Left(_));
-        put_outcome(caller.rt, outcomes, job.number, outcome);
+        if let Some(blank) = outcomes.lock(caller.rt).get_mut(job.number as usize) {
+            *blank = outcome;
+        }
         if leaves {
             return Ok(false);
         }
     }
     Ok(true)
-}
-
-/// Writes the outcome at its job's number.
-#[inline(always)]
-fn put_outcome<X: Drop, W: Wait>(
-    rt: &W,
-    outcomes: &Mutex<Vec<Outcome<X>>>,
-    job: u32,
-    outcome: Outcome<X>,
-) {
-    let mut outcomes = outcomes.lock(rt);
-    if let Some(blank) = outcomes.get_mut(job as usize) {
-        *blank = outcome;
-    }
 }

@@ -18,10 +18,10 @@ pub returns-clause-output : goal.returns-clause-output
 returns-clause-output g c = λ exact.
     output-well c.args.output (configuration_of c.args.engine.now) (c.args.lines.now.number + 1)
     (cut_left c.args.lines.now (g.S.Source.rest c.args.source.now))
-    (part_at c.answer_lines.new.engine) c.flush.result c.in_ok-text.text.items
+    (part_at c.answer_lines.new.engine) c.flush.result c.append_last.new.text.items
     (g.T.Sink.held c.args.sink.now) (g.T.Sink.held c.answer_lines.new.sink) (g.T.Sink.held c.flush.new.sink)
     (exact-flush c.flush.result c.flush.ensures.err exact) c.in_ok-answer_lines.ensures.all
-    c.in_ok-text.ensures c.flush.ensures.bytes
+    c.in_ok-append_last.ensures c.flush.ensures.bytes
 
 pub returns-in_err-answer_lines-clause-stops : goal.returns-in_err-answer_lines-clause-stops
 returns-in_err-answer_lines-clause-stops g c = λ stop.
@@ -44,22 +44,22 @@ returns-in_err-answer_lines-clause-part g c = λ failed.
     (g.T.Sink.held c.args.sink.now) (g.T.Sink.held c.answer_lines.new.sink)
     (c.answer_lines.result ≢ Err fault.Writing) (c.answer_lines.result ≡ Err fault.Reading) refl c.answer_lines.ensures.some
 
-pub returns-in_err-text-clause-stops : goal.returns-in_err-text-clause-stops
-returns-in_err-text-clause-stops g c = λ stop.
+pub returns-in_err-append_last-clause-stops : goal.returns-in_err-append_last-clause-stops
+returns-in_err-append_last-clause-stops g c = λ stop.
     stops-from c.args.output c.some_reply_is_legal.ensures c.histories_go_on.ensures.rows
     (configuration_of c.args.engine.now) c.args.engine.now.opening
     (c.args.lines.now.number + 1) (cut_left c.args.lines.now (g.S.Source.rest c.args.source.now))
     (bytes_left c.args.lines.now (g.S.Source.rest c.args.source.now)) (g.S.Source.rest c.answer_lines.new.source)
     (g.T.Sink.held c.args.sink.now) (g.T.Sink.held c.answer_lines.new.sink)
-    (c.answer_lines.result ≢ Err fault.Writing) (c.answer_lines.result ≡ Err fault.Reading) c.from_residual-in_err-text.result refl
+    (c.answer_lines.result ≢ Err fault.Writing) (c.answer_lines.result ≡ Err fault.Reading) c.from_residual-in_err-append_last.result refl
     (λ is. absurd (cc (sym c.in_ok-answer_lines.was ∙ is))) (λ reading. search rules) c.answer_lines.ensures.some
 
 pub returns-clause-part : goal.returns-clause-part
 returns-clause-part g c = λ failed.
     fails-last c.args.output (configuration_of c.args.engine.now) (c.args.lines.now.number + 1)
     (cut_left c.args.lines.now (g.S.Source.rest c.args.source.now))
-    (part_at c.answer_lines.new.engine) c.in_ok-text.text.items
+    (part_at c.answer_lines.new.engine) c.append_last.new.text.items
     (g.T.Sink.held c.args.sink.now) (g.T.Sink.held c.answer_lines.new.sink) (g.T.Sink.held c.flush.new.sink)
     c.in_ok-answer_lines.ensures.all
-    c.in_ok-text.ensures
+    c.in_ok-append_last.ensures
     (on-failed c.flush.result _ failed c.flush.ensures.part)

@@ -13,17 +13,24 @@ use Rattle.sgt_engine.specs.EngineView.{configuration_of}
 use Rattle.sgt_audit.specs.AllOutcomes.{OutcomesStand}
 use Rattle.sgt_workers.proofs.report.report_of.Goals as goal
 
+pub audit-requires : goal.audit-requires
+audit-requires g c =
+    let s = configuration_of c.args.engine in
+    (s, subst (λ past. Legal s past) (sym c.history.ensures.entries) c.history.ensures.guarantees.legal)
+
 pub returns-clause-report : goal.returns-clause-report
 returns-clause-report g c =
     let s = configuration_of c.args.engine in
     let past = c.into_past-opening.ensures in
     let h = c.into_past-opening.result.history.entries in
     let is = sym past.entries in
+    let audited = c.history.result.now.entries in
+    let same : audited ≡ h =
+    sym (reverse-reverse audited) ∙ ap reverse (c.history.ensures.entries ∙ is) ∙ reverse-reverse h in
     let stand : OutcomesStand h c.args.jobs.now c.args.outcomes.items c.args.workers c.args.tries =
-    subst (λ (l : List Entry). OutcomesStand l c.args.jobs.now c.args.outcomes.items c.args.workers c.args.tries)
-    (ap reverse is ∙ reverse-reverse h)
-    (subst (λ o. OutcomesStand (reverse c.args.engine.past) c.args.jobs.now o c.args.workers c.args.tries) c.as_slice.ensures.value
-    c.in_ok-test_outcomes.ensures.stand) in
+    subst (λ (l : List Entry). OutcomesStand l c.args.jobs.now c.args.outcomes.items c.args.workers c.args.tries) same
+    (subst (λ o. OutcomesStand audited c.args.jobs.now o c.args.workers c.args.tries) c.as_slice.ensures.value
+    (c.in-Ok-audit.ensures.0 c.if-not-stands.false)) in
     record {
       opening = λ k. ap (λ o. contents_of o k) past.opening;
       legal = subst (λ l. Legal s l) is past.guarantees.legal;
