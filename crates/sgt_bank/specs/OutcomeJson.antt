@@ -69,17 +69,11 @@ event_members (outcome.Done n) = joined (codes ",\"event\":" ∷ decimal n ∷ [
 event_members (outcome.Asked n) = joined (codes ",\"event\":" ∷ decimal n ∷ [])
 event_members o = []
 
--- the start of a job's line
-abbrev pub job_start : ℕ → List ℕ
-job_start n = joined (codes "{\"job\":" ∷ decimal n ∷ codes ",\"outcome\":" ∷ [])
-
--- its end
-abbrev pub job_end : ℕ → List ℕ
-job_end tries = joined (codes ",\"tries\":" ∷ decimal tries ∷ codes "}\n" ∷ [])
-
 -- the line of job n
 abbrev pub outcome_json : {N : Type 0} → ℕ → ℕ → List Entry → Outcome N → List ℕ
-outcome_json n failed history o = job_start n ++ outcome_members history o ++ event_members o ++ job_end (tries_of failed o)
+outcome_json n failed history o =
+    joined (codes "{\"job\":" ∷ decimal n ∷ codes ",\"outcome\":" ∷ []) ++ outcome_members history o ++ event_members o
+    ++ joined (codes ",\"tries\":" ∷ decimal (tries_of failed o) ∷ codes "}\n" ∷ [])
 
 -- a count, 0 if there is none
 abbrev pub count_or_zero : Option ℕ → ℕ

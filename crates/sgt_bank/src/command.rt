@@ -6,11 +6,10 @@ ghost use Rattle.sgt_bank.specs.Outputs.{WritesAll, WritesPart, IsFirstFault, Co
 use crate::gate::OpenGate;
 use crate::output::Output;
 use crate::run::write_run;
-use crate::tries::{Procedures, append_tries};
+use crate::tries::tries_text;
 use crate::watch::{Seen, Watch};
 use sgt_explain::Words;
 use sgt_input::{Fault, Sink, Source, write_all};
-use sgt_model::NoMemory;
 use sgt_workers::Report;
 use std::alloc::Global;
 use std::convert::Infallible;
@@ -85,25 +84,13 @@ pub fn run_bank<S: Source, T: Sink, E: Sink, W: Threads + Wait + Clock + Eprint 
     ensures silent { options.explanations ≡ Explanations.Off → errors.new ≡ errors.old }
     ensures unexplained { IfErr result (λ _. errors.new ≡ errors.old) }
 {
-    let Options {
-        workers,
-        tries,
-        most,
-        output,
-        explanations,
-        shows_progress,
-    } = options;
     if !is_watched(&options) {
-        write_run(
-            rt, alloc, source, sink, workers, tries, output, most, &OpenGate, line,
-        )?;
+        write_run(rt, alloc, source, sink, options, &OpenGate, line)?;
         return Ok(());
     }
-    let watch = Watch::new(rt, alloc, shows_progress);
-    let report = write_run(
-        rt, alloc, source, sink, workers, tries, output, most, &watch, line,
-    )?;
-    if let Explanations::Tries = explanations {
+    let watch = Watch::new(rt, alloc, options.shows_progress);
+    let report = write_run(rt, alloc, source, sink, options, &watch, line)?;
+    if let Explanations::Tries = options.explanations {
         explain_tries(alloc, errors, watch.into_seen(), &report, words);
     }
     Ok(())
@@ -126,44 +113,8 @@ fn explain_tries<E: Sink>(
 )
     requires { E.failures errors.old + 1 < 2 ^ 64 }
 {
-    match tries_text(alloc, seen, report, words) {
-        Ok(text) => {
-            let _ = write_all(errors, text.as_slice());
-        }
-        Err(_) => {
-            let _ = write_all(errors, LEFT_OUT);
-        }
-    }
-}
-
-/// The lines of the tries.
-fn tries_text(
-    alloc: Global,
-    seen: Seen,
-    report: &Report<Infallible>,
-    words: &Words,
-) -> Result<Vec<u8>, NoMemory> {
-    let Seen {
-        failed,
-        has_lost,
-        takes,
-        ..
-    } = seen;
-    if has_lost {
-        return Err(NoMemory);
-    }
-    let mut failed = failed;
-    let mut text = Vec::new(alloc);
-    append_tries(
-        alloc,
-        &mut text,
-        &mut failed,
-        &report.history,
-        report.outcomes.as_slice(),
-        Procedures {
-            words,
-            takes: takes.as_slice(),
-        },
-    )?;
-    Ok(text)
+    let _ = match tries_text(alloc, seen, report, words) {
+        Ok(text) => write_all(errors, text.as_slice()),
+        Err(_) => write_all(errors, LEFT_OUT),
+    };
 }

@@ -8,15 +8,17 @@ use std::convert::Infallible;
 /// The most jobs that a worker takes at once.
 pub(crate) const MOST_AT_ONCE: usize = 16;
 
-/// What a gate learns of the procedures of a run, and what it has seen of failed tries.
+/// What a gate learns of the procedures of a run, and what it has seen of failed tries. By default that is nothing.
 pub(crate) trait Failures {
     /// These procedures of line 1 come after those of SmallBank. Called once, before the run.
-    fn opened(&self, procedures: &[Checked]);
+    fn opened(&self, _procedures: &[Checked]) {}
 
     /// How often each job was tried in vain. A list that ends early says that it was not seen.
     ///
     /// `NoMemory` if an allocation failed, for this list or for a try during the run.
-    fn failures(&self, alloc: Global, jobs: usize) -> Result<Vec<u32>, NoMemory>;
+    fn failures(&self, alloc: Global, _jobs: usize) -> Result<Vec<u32>, NoMemory> {
+        Ok(Vec::new(alloc))
+    }
 }
 
 /// A gate that lets every worker continue. Its notes have a type without values, so no outcome is `Left`.
@@ -37,10 +39,4 @@ impl Gate for OpenGate {
     fn finished(&self, _worker: u8, _job: u32, _outcome: &Outcome<Infallible>) {}
 }
 
-impl Failures for OpenGate {
-    fn opened(&self, _procedures: &[Checked]) {}
-
-    fn failures(&self, alloc: Global, _jobs: usize) -> Result<Vec<u32>, NoMemory> {
-        Ok(Vec::new(alloc))
-    }
-}
+impl Failures for OpenGate {}

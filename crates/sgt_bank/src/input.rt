@@ -5,7 +5,6 @@ ghost use Rattle.sgt_bank.specs.Inputs.{InputRequests, InputFails};
 ghost use Rattle.sgt_input.specs.Ends.{IsOfInput};
 
 use crate::jobs::read_jobs;
-use crate::last_line::copy_of_last;
 use sgt_format::Opening;
 use sgt_input::{Fault, Lines, Source, opening_of, read_records};
 use sgt_workers::Job;
@@ -44,19 +43,19 @@ pub fn read_input<S: Source>(
     if !lines.next_line(source)? {
         return Err(Fault::NoOpening);
     }
-    *line = copy_of_last(alloc, &lines);
+    *line = Vec::from_slice(alloc, lines.line()).ok();
     let opening = opening_of(alloc, workers, &lines)?;
     let opening = match read_records(alloc, &mut lines, source, opening) {
         Ok(opening) => opening,
         Err(fault) => {
-            *line = copy_of_last(alloc, &lines);
+            *line = Vec::from_slice(alloc, lines.line()).ok();
             return Err(fault);
         }
     };
     match read_jobs(alloc, &mut lines, source) {
         Ok(jobs) => Ok((opening, jobs)),
         Err(fault) => {
-            *line = copy_of_last(alloc, &lines);
+            *line = Vec::from_slice(alloc, lines.line()).ok();
             Err(fault)
         }
     }

@@ -1,6 +1,6 @@
 //! The outcome of a job as an object of JSON.
 ghost use Rattle.std.specs.Prelude.{◌≡◌, ◌++◌, slice_get, OnOk};
-ghost use Rattle.sgt_bank.specs.OutcomeJson.{ask_members, cause_members, code_members, commit_members, event_members, job_end, job_start, members_at, outcome_json, outcome_members, refusal_members, tries_of};
+ghost use Rattle.sgt_bank.specs.OutcomeJson.{ask_members, cause_members, code_members, commit_members, event_members, members_at, outcome_json, outcome_members, refusal_members, tries_of};
 
 use sgt_log::{EntryRef, History};
 use sgt_model::{Cause, Reply};
@@ -19,16 +19,6 @@ pub(crate) fn append_outcome_json<N>(
     ensures { OnOk result
         (text.new.items ≡ text.old.items ++ outcome_json number failed history.now.entries outcome.now) }
 {
-    append_start(text, number)?;
-    append_members(text, outcome, history)?;
-    append_event(text, outcome)?;
-    append_end(text, tries_of(failed, outcome))
-}
-
-/// Appends the start of the line.
-fn append_start(text: &mut Vec<u8>, number: u32) -> Result<(), AllocError>
-    ensures { OnOk result (text.new.items ≡ text.old.items ++ job_start number) }
-{
     append_pieces(
         text,
         &[
@@ -36,18 +26,14 @@ fn append_start(text: &mut Vec<u8>, number: u32) -> Result<(), AllocError>
             Piece::Number(u64::from(number)),
             Piece::Words(b",\"outcome\":"),
         ],
-    )
-}
-
-/// Appends the end of the line.
-fn append_end(text: &mut Vec<u8>, tries: u64) -> Result<(), AllocError>
-    ensures { OnOk result (text.new.items ≡ text.old.items ++ job_end tries) }
-{
+    )?;
+    append_members(text, outcome, history)?;
+    append_event(text, outcome)?;
     append_pieces(
         text,
         &[
             Piece::Words(b",\"tries\":"),
-            Piece::Number(tries),
+            Piece::Number(tries_of(failed, outcome)),
             Piece::Words(b"}\n"),
         ],
     )
@@ -60,9 +46,7 @@ fn tries_of<N>(failed: u32, outcome: &Outcome<N>) -> u64
     match outcome {
         Outcome::Done(_) | Outcome::Asked(_) => u64::from(failed) + 1,
         Outcome::Gave(attempts) => attempts.len() as u64,
-        Outcome::Refused(_) | Outcome::Left(_) | Outcome::Untaken | Outcome::NoMemory => {
-            u64::from(failed)
-        }
+        _ => u64::from(failed),
     }
 }
 
@@ -95,11 +79,7 @@ fn append_event<N>(text: &mut Vec<u8>, outcome: &Outcome<N>) -> Result<(), Alloc
             text,
             &[Piece::Words(b",\"event\":"), Piece::Number(*n)],
         ),
-        Outcome::Gave(_)
-        | Outcome::Refused(_)
-        | Outcome::Left(_)
-        | Outcome::Untaken
-        | Outcome::NoMemory => Ok(()),
+        _ => Ok(()),
     }
 }
 
@@ -174,16 +154,10 @@ fn append_refusal(text: &mut Vec<u8>, history: &History, n: u64) -> Result<(), A
     ensures { OnOk result
         (text.new.items ≡ text.old.items ++ members_at refusal_members (slice_get history.now.entries n)) }
 {
-    match history.get_entry(n as usize) {
-        Some(entry) => append_refusal_members(text, &entry.reply()),
-        None => text.extend_from_slice(b"null"),
-    }
-}
-
-fn append_refusal_members(text: &mut Vec<u8>, reply: &Reply) -> Result<(), AllocError>
-    ensures { OnOk result (text.new.items ≡ text.old.items ++ refusal_members reply.now) }
-{
-    match reply {
+    let Some(entry) = history.get_entry(n as usize) else {
+        return text.extend_from_slice(b"null");
+    };
+    match entry.reply() {
         Reply::NoProcedure => text.extend_from_slice(b"\"refused\",\"reason\":\"no procedure\""),
         Reply::BadArgs => text.extend_from_slice(b"\"refused\",\"reason\":\"bad args\""),
         Reply::Spent => text.extend_from_slice(b"\"refused\",\"reason\":\"spent\""),

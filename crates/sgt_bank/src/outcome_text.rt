@@ -53,10 +53,7 @@ fn lone_answer<N>(outcome: &Outcome<N>, history: &History) -> Option<i64>
         outcome_words history.now.entries outcome.now ≡ codes "committed " ++ signed_decimal answer) }
 {
     match outcome {
-        Outcome::Done(n) => match history.get_entry(*n as usize) {
-            Some(entry) => lone_answer_of(&entry),
-            None => None,
-        },
+        Outcome::Done(n) => lone_answer_of(&history.get_entry(*n as usize)?),
         _ => None,
     }
 }
@@ -159,17 +156,10 @@ fn append_refusal(line: &mut Vec<u8>, history: &History, n: u64) -> Result<(), A
         (line.new.items ≡ line.old.items ++ words_at refusal_words (slice_get history.now.entries n)) }
     ensures err { OnErr result (take (vec_len line.old) line.new.items ≡ line.old.items) }
 {
-    match history.get_entry(n as usize) {
-        Some(entry) => append_refusal_words(line, &entry.reply()),
-        None => Ok(()),
-    }
-}
-
-fn append_refusal_words(line: &mut Vec<u8>, reply: &Reply) -> Result<(), AllocError>
-    ensures ok { OnOk result (line.new.items ≡ line.old.items ++ refusal_words reply.now) }
-    ensures err { OnErr result (take (vec_len line.old) line.new.items ≡ line.old.items) }
-{
-    match reply {
+    let Some(entry) = history.get_entry(n as usize) else {
+        return Ok(());
+    };
+    match entry.reply() {
         Reply::NoProcedure => line.extend_from_slice(b"refused 1"),
         Reply::BadArgs => line.extend_from_slice(b"refused 2"),
         Reply::Spent => line.extend_from_slice(b"refused 3"),

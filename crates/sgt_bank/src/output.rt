@@ -1,14 +1,10 @@
 //! What a run writes: the report, the history or the records.
-ghost use Rattle.std.specs.Prelude.{◌≡◌, ◌≤◌, IfOk, length, reverse};
-ghost use Rattle.sgt_format.specs.RecordText.{record_lines};
-ghost use Rattle.sgt_notation.specs.Transcripts.{transcript};
+ghost use Rattle.std.specs.Prelude.{◌≡◌, ◌≤◌, IfOk, length};
 ghost use Rattle.sgt_bank.specs.Outputs.{output_text};
 
-use crate::report::report_text;
-use crate::report_json::json_text;
+use crate::report::{json_text, report_text};
 use sgt_format::append_records;
-use sgt_log::History;
-use sgt_model::{Database, NoMemory};
+use sgt_model::NoMemory;
 use sgt_notation::append_transcript;
 use sgt_workers::Report;
 use std::alloc::Global;
@@ -43,6 +39,7 @@ pub(crate) fn output_text(
     ensures { IfOk result (λ text. text.items
         ≡ output_text output failed.now report.now.history.entries report.now.outcomes.items report.now.database) }
 {
+    let mut text = Vec::new(alloc);
     match output {
         Output::Report => report_text(
             alloc,
@@ -50,32 +47,14 @@ pub(crate) fn output_text(
             report.outcomes.as_slice(),
             &report.database,
         ),
-        Output::History => history_text(alloc, &report.history),
-        Output::Records => records_text(alloc, &report.database),
-        Output::Json => json_text(
-            alloc,
-            &report.history,
-            report.outcomes.as_slice(),
-            failed,
-            &report.database,
-        ),
+        Output::History => {
+            append_transcript(&mut text, &report.history)?;
+            Ok(text)
+        }
+        Output::Records => {
+            append_records(&mut text, report.database.rows())?;
+            Ok(text)
+        }
+        Output::Json => json_text(alloc, report, failed),
     }
-}
-
-/// The operations of a history, a line each.
-fn history_text(alloc: Global, history: &History) -> Result<Vec<u8>, NoMemory>
-    ensures { IfOk result (λ text. text.items ≡ transcript (reverse history.now.entries)) }
-{
-    let mut text = Vec::new(alloc);
-    append_transcript(&mut text, history)?;
-    Ok(text)
-}
-
-/// The records of a database, a line each.
-fn records_text(alloc: Global, database: &Database) -> Result<Vec<u8>, NoMemory>
-    ensures { IfOk result (λ text. text.items ≡ record_lines database.now) }
-{
-    let mut text = Vec::new(alloc);
-    append_records(&mut text, database.rows())?;
-    Ok(text)
 }

@@ -7,13 +7,13 @@ ghost use Rattle.sgt_bank.specs.Banks.{AreRun, IsRun};
 ghost use Rattle.sgt_bank.specs.Outputs.{WritesAll, WritesPart, IsFirstFault, CountsReads, CountsWrites};
 
 use crate::bank::bank_of;
+use crate::command::{Explanations, Options};
 use crate::gate::{Failures, OpenGate};
 use crate::input::read_input;
 use crate::output::{Output, output_text};
 use sgt_assembly::{SgtAccesses, SgtGraph, SgtRecords, opened_is_bank};
 use sgt_format::Opening;
 use sgt_input::{DEFAULT_BYTES, Fault, Sink, Source, write_all};
-use sgt_model::NoMemory;
 use sgt_notation::transcripts_spell_textbooks;
 use sgt_textbook::{legal_are_commit_ordered, legal_are_recoverable, legal_are_serializable};
 use sgt_workers::{Gate, Job, PoolError, Report, run};
@@ -33,19 +33,19 @@ fn run_after_opening<G: Gate<Note = Infallible> + Sync, W: Threads + Wait + Sync
     alloc: Global,
     opening: Opening,
     jobs: &[Job],
-    workers: u32,
-    tries: u32,
+    options: Options,
     gate: &G,
 ) -> Result<Report<Infallible>, Fault>
-    requires workers { AreWorkers workers }
-    requires tries { AreTries tries }
-    requires limits { AreLimitsFor workers opening.limits }
+    requires workers { AreWorkers options.workers }
+    requires tries { AreTries options.tries }
+    requires limits { AreLimitsFor options.workers opening.limits }
     requires jobs { AreJobs jobs.now }
     ensures report { IfOk result (λ r.
-        AreRun opening jobs.now workers tries r.history.entries r.outcomes.items r.database) }
+        AreRun opening jobs.now options.workers options.tries r.history.entries r.outcomes.items r.database) }
     ensures fault { IfErr result (λ f. ¬ IsOfText f) }
     ensures own { (result ≢ Err Fault.Reading) × (result ≢ Err Fault.Writing) }
 {
+    let Options { workers, tries, .. } = options;
     let bank = bank_of(alloc, opening)?;
     match run::<SgtRecords, SgtAccesses, SgtGraph, G, W>(
         rt, alloc, bank, jobs, workers, tries, gate,
@@ -58,7 +58,7 @@ fn run_after_opening<G: Gate<Note = Infallible> + Sync, W: Threads + Wait + Sync
     }
 }
 
-/// Runs the jobs of an input of at most `most` bytes. The gate is called as by `run` of `sgt_workers`.
+/// Runs the jobs of an input. The gate is called as by `run` of `sgt_workers`.
 ///
 /// # Errors
 ///
@@ -67,42 +67,27 @@ fn run_input<S: Source, G: Gate<Note = Infallible> + Failures + Sync, W: Threads
     rt: &W,
     alloc: Global,
     source: &mut S,
-    workers: u32,
-    tries: u32,
-    most: usize,
+    options: Options,
     gate: &G,
     line: &mut Option<Vec<u8>>,
 ) -> Result<Report<Infallible>, Fault>
     requires reading { S.failures source.old + 1 < 2 ^ 64 }
-    requires most { most ≤ 4294967296 }
-    requires workers { AreWorkers workers }
-    requires tries { AreTries tries }
+    requires most { options.most ≤ 4294967296 }
+    requires workers { AreWorkers options.workers }
+    requires tries { AreTries options.tries }
     ensures run { IfOk result (λ r. IfSome (S.rest source.old) (λ bytes.
-        IsRun workers tries most bytes r.history.entries r.outcomes.items r.database)) }
+        IsRun options.workers options.tries options.most bytes r.history.entries r.outcomes.items r.database)) }
     ensures few { IfOk result (λ r. length r.outcomes.items ≤ 1000000) }
-    ensures fault { IfErr result (IsFirstFault workers most (S.rest source.old)) }
-    ensures reads { CountsReads result most (S.given source.old) (S.given source.new) (S.failures source.old) (S.failures source.new) }
+    ensures fault { IfErr result (IsFirstFault options.workers options.most (S.rest source.old)) }
+    ensures reads { CountsReads result options.most (S.given source.old) (S.given source.new) (S.failures source.old) (S.failures source.new) }
     ensures writing { result ≢ Err Fault.Writing }
 {
     // In every legal history after the opening SmallBank's procedures did the bank's arithmetic.
     opened_is_bank();
-    let (opening, jobs) = read_input(alloc, source, workers, most, line)?;
+    let (opening, jobs) = read_input(alloc, source, options.workers, options.most, line)?;
     gate.opened(opening.procedures.as_slice());
-    let report = run_after_opening(rt, alloc, opening, jobs.as_slice(), workers, tries, gate)?;
+    let report = run_after_opening(rt, alloc, opening, jobs.as_slice(), options, gate)?;
     Ok(report)
-}
-
-/// How often each job was tried in vain, if this output mode reports that; else nothing.
-fn failures_for<G: Failures>(
-    alloc: Global,
-    output: Output,
-    gate: &G,
-    jobs: usize,
-) -> Result<Vec<u32>, NoMemory> {
-    match output {
-        Output::Json => gate.failures(alloc, jobs),
-        Output::Report | Output::History | Output::Records => Ok(Vec::new(alloc)),
-    }
 }
 
 /// Writes the text of a run.
@@ -120,8 +105,8 @@ fn write_text<T: Sink>(sink: &mut T, text: &[u8]) -> Result<(), Fault>
     Ok(())
 }
 
-/// Runs the jobs of an input of at most `most` bytes and writes the output. The gate is called as by `run` of
-/// `sgt_workers`. `line` is as of `read_input`.
+/// Runs the jobs of an input and writes the output. The gate is called as by `run` of `sgt_workers`. `line` is as of
+/// `read_input`.
 ///
 /// # Errors
 ///
@@ -136,34 +121,35 @@ pub(crate) fn write_run<
     alloc: Global,
     source: &mut S,
     sink: &mut T,
-    workers: u32,
-    tries: u32,
-    output: Output,
-    most: usize,
+    options: Options,
     gate: &G,
     line: &mut Option<Vec<u8>>,
 ) -> Result<Report<Infallible>, Fault>
     requires reading { S.failures source.old + 1 < 2 ^ 64 }
     requires writing { T.failures sink.old + 1 < 2 ^ 64 }
-    requires most { most ≤ 4294967296 }
-    requires workers { AreWorkers workers }
-    requires tries { AreTries tries }
-    ensures output { OnOk result (WritesAll output workers tries most (S.rest source.old) (T.held sink.old) (T.held sink.new)) }
+    requires most { options.most ≤ 4294967296 }
+    requires workers { AreWorkers options.workers }
+    requires tries { AreTries options.tries }
+    ensures output { OnOk result
+        (WritesAll options.output options.workers options.tries options.most (S.rest source.old) (T.held sink.old) (T.held sink.new)) }
     ensures part { result ≡ Err Fault.Writing →
-        WritesPart output workers tries most (S.rest source.old) (T.held sink.old) (T.held sink.new) }
+        WritesPart options.output options.workers options.tries options.most (S.rest source.old) (T.held sink.old) (T.held sink.new) }
     ensures nothing { IfErr result (λ f. f ≢ Fault.Writing → sink.new ≡ sink.old) }
-    ensures fault { IfErr result (IsFirstFault workers most (S.rest source.old)) }
-    ensures reads { CountsReads result most (S.given source.old) (S.given source.new) (S.failures source.old) (S.failures source.new) }
+    ensures fault { IfErr result (IsFirstFault options.workers options.most (S.rest source.old)) }
+    ensures reads { CountsReads result options.most (S.given source.old) (S.given source.new) (S.failures source.old) (S.failures source.new) }
     ensures writes { CountsWrites result (T.failures sink.old) (T.failures sink.new) }
 {
-    let report = run_input(rt, alloc, source, workers, tries, most, gate, line)?;
+    let report = run_input(rt, alloc, source, options, gate, line)?;
     // The laws of every legal history in the textbook's own classes; and that its transcript spells it.
     legal_are_commit_ordered();
     legal_are_serializable();
     legal_are_recoverable();
     transcripts_spell_textbooks();
-    let failed = failures_for(alloc, output, gate, report.outcomes.len())?;
-    let text = output_text(alloc, output, &report, failed.as_slice())?;
+    let failed = match options.output {
+        Output::Json => gate.failures(alloc, report.outcomes.len())?,
+        _ => Vec::new(alloc),
+    };
+    let text = output_text(alloc, options.output, &report, failed.as_slice())?;
     write_text(sink, text.as_slice())?;
     Ok(report)
 }
@@ -207,17 +193,14 @@ pub fn run_jobs<S: Source, T: Sink, W: Threads + Wait + Sync>(
     ensures reads { CountsReads result 16777216 (S.given source.old) (S.given source.new) (S.failures source.old) (S.failures source.new) }
     ensures writes { CountsWrites result (T.failures sink.old) (T.failures sink.new) }
 {
-    write_run(
-        rt,
-        alloc,
-        source,
-        sink,
+    let options = Options {
         workers,
         tries,
-        Output::Report,
-        DEFAULT_BYTES,
-        &OpenGate,
-        &mut None,
-    )?;
+        most: DEFAULT_BYTES,
+        output: Output::Report,
+        explanations: Explanations::Off,
+        shows_progress: false,
+    };
+    write_run(rt, alloc, source, sink, options, &OpenGate, &mut None)?;
     Ok(())
 }

@@ -1,12 +1,13 @@
 //! The report of the jobs that were aborted, refused or tried more than once.
 use crate::codes::{Coded, append_codes};
-use crate::watch::FailedTry;
+use crate::watch::{FailedTry, Seen};
 use sgt_explain::{Words, append_code, append_refusal, refusal_of};
 use sgt_format::append_numbered;
 use sgt_log::{EntryRef, History};
 use sgt_model::{Cause, EMPTY_PROCEDURE, Entry, Event, NoMemory, Reply, Tid};
-use sgt_workers::Outcome;
+use sgt_workers::{Outcome, Report};
 use std::alloc::{AllocError, Global};
+use std::convert::Infallible;
 
 /// How a transaction ended.
 #[derive(Clone, Copy)]
@@ -27,17 +28,20 @@ struct Known {
     job: Option<usize>,
 }
 
-/// What is known of the procedures of a run.
+/// A run of jobs, and what is known of it.
 #[derive(Clone, Copy)]
-pub(crate) struct Procedures<'a> {
-    /// What their codes mean.
-    pub words: &'a Words,
+struct Run<'a> {
+    history: &'a History,
+    /// What is known of each transaction, by transaction number.
+    known: &'a [Known],
+    /// What codes mean.
+    words: &'a Words,
     /// How many arguments each procedure of line 1 takes, as far as this is known.
-    pub takes: &'a [u8],
+    takes: &'a [u8],
 }
 
 /// How many jobs ended in each way, and how many tries were made.
-#[derive(Clone, Copy)]
+#[derive(Clone, Copy, Default)]
 struct Tally {
     committed: usize,
     requested: usize,
@@ -47,63 +51,51 @@ struct Tally {
     tries: usize,
 }
 
-/// Appends a line for each job that did not commit at its first try, by number, and a summary. An example is
+/// A line for each job that did not commit at its first try, by number, and a summary. An example is
 /// `job 2: committed at try 3; try 1: cycle with job 3, 4; try 2: aborted in cascade with job 7`. Before the
-/// summary comes a line for each code. The failed attempts are sorted by job.
+/// summary comes a line for each code.
 ///
-/// `NoMemory` if an allocation failed.
-pub(crate) fn append_tries<N>(
+/// `NoMemory` if an allocation failed, or failed for a try during the run.
+pub(crate) fn tries_text(
     alloc: Global,
-    text: &mut Vec<u8>,
-    failed: &mut Vec<FailedTry>,
-    history: &History,
-    outcomes: &[Outcome<N>],
-    procedures: Procedures<'_>,
-) -> Result<(), NoMemory> {
-    failed.sort_by_key(|failed| failed.job)?;
-    let known = known_of(alloc, history, failed.as_slice(), outcomes)?;
-    let mut tally = Tally::new();
+    seen: Seen,
+    report: &Report<Infallible>,
+    words: &Words,
+) -> Result<Vec<u8>, NoMemory> {
+    let mut seen = seen;
+    if seen.has_lost {
+        return Err(NoMemory);
+    }
+    seen.failed.sort_by_key(|failed| failed.job)?;
+    let known = known_of(alloc, report, seen.failed.as_slice())?;
+    let run = Run {
+        history: &report.history,
+        known: known.as_slice(),
+        words,
+        takes: seen.takes.as_slice(),
+    };
+    let mut text = Vec::new(alloc);
+    let mut tally = Tally::default();
     let mut codes = Vec::new(alloc);
-    let mut rest = failed.as_slice();
-    for job in 0..outcomes.len() {
+    let mut rest = seen.failed.as_slice();
+    for (job, outcome) in report.outcomes.iter().enumerate() {
         let (own, others) = split_job(rest, job);
-        tally.count(&outcomes[job], own.len());
-        let coded = coded_of(history, &outcomes[job], known.as_slice());
+        tally.count(outcome, own.len());
+        let coded = run.coded_of(outcome);
         if let Some(coded) = coded {
             codes.push(coded)?;
         }
-        append_job(
-            text,
-            job,
-            own,
-            &outcomes[job],
-            coded,
-            known.as_slice(),
-            history,
-            procedures,
-        )?;
+        run.append_job(&mut text, job, own, outcome, coded)?;
         rest = others;
     }
-    append_codes(text, procedures.words, &mut codes)?;
-    tally.append(text, outcomes.len())?;
-    Ok(())
+    append_codes(&mut text, words, &mut codes)?;
+    tally.append(&mut text, report.outcomes.len())?;
+    Ok(text)
 }
 
 impl Tally {
-    // Nothing is counted yet.
-    fn new() -> Self {
-        Tally {
-            committed: 0,
-            requested: 0,
-            gave: 0,
-            refused: 0,
-            failed: 0,
-            tries: 0,
-        }
-    }
-
     // Counts a job, with its number of failed tries.
-    fn count<N>(&mut self, outcome: &Outcome<N>, failed: usize) {
+    fn count(&mut self, outcome: &Outcome<Infallible>, failed: usize) {
         match outcome {
             Outcome::Done(_) => self.committed = self.committed.saturating_add(1),
             Outcome::Asked(_) => self.requested = self.requested.saturating_add(1),
@@ -134,29 +126,14 @@ impl Tally {
 }
 
 // What is known of each transaction, by transaction number.
-fn known_of<N>(
+fn known_of(
     alloc: Global,
-    history: &History,
+    report: &Report<Infallible>,
     failed: &[FailedTry],
-    outcomes: &[Outcome<N>],
 ) -> Result<Vec<Known>, NoMemory> {
-    let mut known = ends_of(alloc, history)?;
-    for failed in failed {
-        put_job(known.as_mut_slice(), failed.tid, failed.job as usize);
-    }
-    for job in 0..outcomes.len() {
-        if let Some(t) = last_transaction(history, &outcomes[job]) {
-            put_job(known.as_mut_slice(), t, job);
-        }
-    }
-    Ok(known)
-}
-
-// How each transaction ended, by transaction number.
-fn ends_of(alloc: Global, history: &History) -> Result<Vec<Known>, NoMemory> {
     let mut known = Vec::new(alloc);
-    for place in 0..history.len() {
-        let entry = history.entry(place);
+    for place in 0..report.history.len() {
+        let entry = report.history.entry(place);
         if entry.started().is_some() {
             known.push(Known {
                 procedure: procedure_of(&entry.event()),
@@ -165,6 +142,14 @@ fn ends_of(alloc: Global, history: &History) -> Result<Vec<Known>, NoMemory> {
             })?;
         }
         note_ends(known.as_mut_slice(), place, &entry);
+    }
+    for failed in failed {
+        put_job(known.as_mut_slice(), failed.tid, failed.job as usize);
+    }
+    for (job, outcome) in report.outcomes.iter().enumerate() {
+        if let Some(t) = last_transaction(&report.history, outcome) {
+            put_job(known.as_mut_slice(), t, job);
+        }
     }
     Ok(known)
 }
@@ -213,7 +198,7 @@ fn split_job(failed: &[FailedTry], job: usize) -> (&[FailedTry], &[FailedTry]) {
 }
 
 // The transaction of the attempt that did not fail, if the outcome names one.
-fn last_transaction<N>(history: &History, outcome: &Outcome<N>) -> Option<Tid> {
+fn last_transaction(history: &History, outcome: &Outcome<Infallible>) -> Option<Tid> {
     match outcome {
         Outcome::Done(number) | Outcome::Asked(number) => {
             history.get_entry(*number as usize)?.named()
@@ -222,113 +207,137 @@ fn last_transaction<N>(history: &History, outcome: &Outcome<N>) -> Option<Tid> {
     }
 }
 
-// The code with which a job's procedure aborted, if it did.
-fn coded_of<N>(history: &History, outcome: &Outcome<N>, known: &[Known]) -> Option<Coded> {
-    let Outcome::Asked(number) = outcome else {
-        return None;
-    };
-    let known = match last_transaction(history, outcome) {
-        Some(t) => known.get(t.0 as usize),
-        None => None,
-    };
-    Some(Coded {
-        procedure: known.map_or(u16::MAX, |known| known.procedure),
-        code: code_at(history, *number),
-    })
-}
-
-// Appends the line of a job, if it did not commit at its first try.
-fn append_job<N>(
-    text: &mut Vec<u8>,
-    job: usize,
-    failed: &[FailedTry],
-    outcome: &Outcome<N>,
-    coded: Option<Coded>,
-    known: &[Known],
-    history: &History,
-    procedures: Procedures<'_>,
-) -> Result<(), NoMemory> {
-    if failed.is_empty() && matches!(outcome, Outcome::Done(_)) {
-        return Ok(());
-    }
-    append_numbered(text, b"job ", job)?;
-    match coded {
-        Some(coded) => append_coded(text, failed.len(), coded, procedures.words)?,
-        None => append_outcome(text, failed.len(), outcome, history, procedures.takes)?,
-    }
-    for (index, failed) in failed.iter().enumerate() {
-        append_numbered(text, b"; try ", index.saturating_add(1))?;
-        append_end(text, failed.tid, known, history)?;
-    }
-    text.extend_from_slice(b"\n")?;
-    Ok(())
-}
-
-// Appends the code with which the job aborted, after its failed tries.
-fn append_coded(
-    text: &mut Vec<u8>,
-    failed: usize,
-    coded: Coded,
-    words: &Words,
-) -> Result<(), NoMemory> {
-    text.extend_from_slice(b": aborted with ")?;
-    append_code(text, words, coded.procedure, coded.code)?;
-    append_numbered(text, b" at try ", failed.saturating_add(1))?;
-    Ok(())
-}
-
-// Appends how the job ended in another way, after its failed tries.
-fn append_outcome<N>(
-    text: &mut Vec<u8>,
-    failed: usize,
-    outcome: &Outcome<N>,
-    history: &History,
-    takes: &[u8],
-) -> Result<(), NoMemory> {
-    match outcome {
-        Outcome::Done(_) => append_numbered(
-            text,
-            b": committed at try ",
-            failed.saturating_add(1),
-        )?,
-        Outcome::Gave(_) => append_numbered(text, b": given up at try ", failed)?,
-        Outcome::Refused(number) => {
-            text.extend_from_slice(b": refused: ")?;
-            append_refused(text, history, *number, takes)?;
+// The code with which a reply aborts its transaction, if it does.
+fn code_in(reply: &Reply) -> Option<u16> {
+    match reply {
+        Reply::Aborted {
+            cause: Cause::Asked(code),
+            ..
         }
-        _ => text.extend_from_slice(b": no memory")?,
+        | Reply::Refused { code, .. } => Some(*code),
+        _ => None,
     }
-    Ok(())
 }
 
-// The code with which the entry at a position aborts its transaction.
-fn code_at(history: &History, number: u64) -> u16 {
-    match history.get(number as usize) {
-        Some(entry) => match entry.reply {
-            Reply::Aborted {
-                cause: Cause::Asked(code),
-                ..
+impl Run<'_> {
+    // The code with which a job's procedure aborted, if it did.
+    fn coded_of(&self, outcome: &Outcome<Infallible>) -> Option<Coded> {
+        let Outcome::Asked(number) = outcome else {
+            return None;
+        };
+        let entry = self.history.get_entry(*number as usize)?;
+        let known = self.known.get(entry.named()?.0 as usize)?;
+        Some(Coded {
+            procedure: known.procedure,
+            code: code_in(&entry.reply())?,
+        })
+    }
+
+    // Appends the line of a job, if it did not commit at its first try.
+    fn append_job(
+        &self,
+        text: &mut Vec<u8>,
+        job: usize,
+        failed: &[FailedTry],
+        outcome: &Outcome<Infallible>,
+        coded: Option<Coded>,
+    ) -> Result<(), NoMemory> {
+        if failed.is_empty() && matches!(outcome, Outcome::Done(_)) {
+            return Ok(());
+        }
+        append_numbered(text, b"job ", job)?;
+        match coded {
+            Some(coded) => {
+                text.extend_from_slice(b": aborted with ")?;
+                append_code(text, self.words, coded.procedure, coded.code)?;
+                append_numbered(text, b" at try ", failed.len().saturating_add(1))?;
             }
-            | Reply::Refused { code, .. } => code,
-            _ => 0,
-        },
-        None => 0,
+            None => self.append_outcome(text, failed.len(), outcome)?,
+        }
+        for (index, failed) in failed.iter().enumerate() {
+            append_numbered(text, b"; try ", index.saturating_add(1))?;
+            self.append_end(text, failed.tid)?;
+        }
+        text.extend_from_slice(b"\n")?;
+        Ok(())
     }
-}
 
-// Appends why the entry at a position refuses a start.
-fn append_refused(
-    text: &mut Vec<u8>,
-    history: &History,
-    number: u64,
-    takes: &[u8],
-) -> Result<(), NoMemory> {
-    let Some(Entry { event, reply }) = history.get(number as usize) else {
-        return Ok(());
-    };
-    match refusal_of(&event, &reply, taken_by(&event, takes)) {
-        Some(refusal) => append_refusal(text, &refusal),
-        None => Ok(()),
+    // Appends how the job ended without a code, after its failed tries.
+    fn append_outcome(
+        &self,
+        text: &mut Vec<u8>,
+        failed: usize,
+        outcome: &Outcome<Infallible>,
+    ) -> Result<(), NoMemory> {
+        match outcome {
+            Outcome::Done(_) => append_numbered(
+                text,
+                b": committed at try ",
+                failed.saturating_add(1),
+            )?,
+            Outcome::Gave(_) => append_numbered(text, b": given up at try ", failed)?,
+            Outcome::Refused(number) => {
+                text.extend_from_slice(b": refused: ")?;
+                self.append_refused(text, *number)?;
+            }
+            _ => text.extend_from_slice(b": no memory")?,
+        }
+        Ok(())
+    }
+
+    // Appends why the entry at a position refuses a start.
+    fn append_refused(&self, text: &mut Vec<u8>, number: u64) -> Result<(), NoMemory> {
+        let Some(Entry { event, reply }) = self.history.get(number as usize) else {
+            return Ok(());
+        };
+        match refusal_of(&event, &reply, taken_by(&event, self.takes)) {
+            Some(refusal) => append_refusal(text, &refusal),
+            None => Ok(()),
+        }
+    }
+
+    // Appends which jobs aborted the transaction of a failed try.
+    fn append_end(&self, text: &mut Vec<u8>, t: Tid) -> Result<(), AllocError> {
+        let Some(known) = self.known.get(t.0 as usize) else {
+            return Ok(());
+        };
+        match known.end {
+            End::With(other) => {
+                text.extend_from_slice(b": aborted in cascade with")?;
+                self.append_owner(text, b" job ", other)
+            }
+            End::ByCycle(place) => self.append_cycle(text, t, place),
+            End::Own => Ok(()),
+        }
+    }
+
+    // Appends the others of the cycle by which the entry at a position aborts the transaction.
+    fn append_cycle(&self, text: &mut Vec<u8>, t: Tid, place: usize) -> Result<(), AllocError> {
+        let Some(entry) = self.history.get_entry(place) else {
+            return Ok(());
+        };
+        text.extend_from_slice(b": cycle with")?;
+        let mut words: &'static [u8] = b" job ";
+        for other in entry.cycle() {
+            if *other != t {
+                self.append_owner(text, words, *other)?;
+                words = b", ";
+            }
+        }
+        Ok(())
+    }
+
+    // Appends these words and the job that the transaction was a try of.
+    fn append_owner(
+        &self,
+        text: &mut Vec<u8>,
+        words: &'static [u8],
+        t: Tid,
+    ) -> Result<(), AllocError> {
+        match self.known.get(t.0 as usize) {
+            Some(Known { job: Some(job), .. }) => append_numbered(text, words, *job),
+            _ => text.extend_from_slice(b" another"),
+        }
     }
 }
 
@@ -347,67 +356,5 @@ fn taken_by(event: &Event, takes: &[u8]) -> Option<u8> {
             }
         }
         _ => None,
-    }
-}
-
-// Appends which jobs aborted the transaction of a failed try.
-fn append_end(
-    text: &mut Vec<u8>,
-    t: Tid,
-    known: &[Known],
-    history: &History,
-) -> Result<(), AllocError> {
-    match known.get(t.0 as usize) {
-        Some(
-            Known {
-                end: End::With(other),
-                ..
-            },
-        ) => {
-            text.extend_from_slice(b": aborted in cascade with")?;
-            append_owner(text, b" job ", *other, known)
-        }
-        Some(
-            Known {
-                end: End::ByCycle(place),
-                ..
-            },
-        ) => append_cycle(text, t, *place, known, history),
-        _ => Ok(()),
-    }
-}
-
-// Appends the others of the cycle by which the entry at a position aborts the transaction.
-fn append_cycle(
-    text: &mut Vec<u8>,
-    t: Tid,
-    place: usize,
-    known: &[Known],
-    history: &History,
-) -> Result<(), AllocError> {
-    let Some(entry) = history.get_entry(place) else {
-        return Ok(());
-    };
-    text.extend_from_slice(b": cycle with")?;
-    let mut words: &'static [u8] = b" job ";
-    for other in entry.cycle() {
-        if *other != t {
-            append_owner(text, words, *other, known)?;
-            words = b", ";
-        }
-    }
-    Ok(())
-}
-
-// Appends these words and the job that the transaction was a try of.
-fn append_owner(
-    text: &mut Vec<u8>,
-    words: &'static [u8],
-    t: Tid,
-    known: &[Known],
-) -> Result<(), AllocError> {
-    match known.get(t.0 as usize) {
-        Some(Known { job: Some(job), .. }) => append_numbered(text, words, *job),
-        _ => text.extend_from_slice(b" another"),
     }
 }

@@ -15,7 +15,7 @@ returns-in-Ok-clause-report g c =
     record {
       legal = subst (λ (s : Configuration). Legal s past) same ran.legal;
       stand = ran.outcomes;
-      each = each-run c.in-Ok.report.outcomes.items c.args.workers c.requires.workers.0 ran.outcomes.counts.untaken;
+      each = each-run c.in-Ok.report.outcomes.items c.args.options.workers c.requires.workers.0 ran.outcomes.counts.untaken;
       replay = subst (λ (s : Configuration). ReplayAgrees s past) same ran.replay;
       no_cycle = ran.no_cycle;
       causes = subst (λ (s : Configuration). AbortsHaveCause s past) same ran.causes;

@@ -6,11 +6,11 @@ use Rattle.sgt_bank.proofs.run.run_input.Goals as goal
 
 pub returns-clause-run : goal.returns-clause-run
 returns-clause-run g c =
-    is-run c.opened_is_bank.ensures c.args.workers c.args.tries c.args.most (g.S.Source.rest c.args.source.now)
+    is-run c.opened_is_bank.ensures c.args.options.workers c.args.options.tries c.args.options.most (g.S.Source.rest c.args.source.now)
     c.in_ok-opening.opening c.in_ok-opening.jobs.items c.in_ok-report.report.history.entries c.in_ok-report.report.outcomes.items
     c.in_ok-report.report.database
     c.in_ok-opening.ensures.input
-    (subst (λ js. AreRun c.in_ok-opening.opening js c.args.workers c.args.tries c.in_ok-report.report.history.entries
+    (subst (λ js. AreRun c.in_ok-opening.opening js c.args.options.workers c.args.options.tries c.in_ok-report.report.history.entries
     c.in_ok-report.report.outcomes.items c.in_ok-report.report.database) c.as_slice-2.ensures.value c.in_ok-report.ensures.report)
 
 pub returns-clause-few : goal.returns-clause-few

@@ -1,6 +1,6 @@
 use Rattle.std.proofs.Common.{◌≡◌, ◌++◌, drop}
 use Rattle.sgt_bank.specs.OutcomeJson.{outcomes_json}
-use Rattle.sgt_bank.proofs.report_json.append_outcomes.Given as goal
+use Rattle.sgt_bank.proofs.report.append_objects.Given as goal
 
 -- the lines that are left give what all of them give
 abbrev pub invariant-loop-number : goal.invariant-loop-number
