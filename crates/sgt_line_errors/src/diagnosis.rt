@@ -4,12 +4,10 @@ ghost use Rattle.sgt_line_errors.specs.FaultyLines.{line_of};
 
 use crate::command::Command;
 use crate::json_text::json_fault;
-use crate::message::{Message, words};
-use crate::record::record_fault;
+use crate::message::words;
 use crate::refusal::opening_refusal;
-use crate::request::{event_fault, job_fault};
+use crate::request::{record_fault, request_fault};
 use crate::typed::Typed;
-use serde_json::Value;
 use sgt_format::read_tree;
 use sgt_input::Fault;
 use sgt_model::NoMemory;
@@ -47,20 +45,15 @@ pub fn diagnose(
         | Fault::BadOpening(_)
         | Fault::ProcShape(_, _)
         | Fault::ProcFlaw(_, _) => opening_refusal(typed, least_live(command)),
-        Fault::BadLine(_) | Fault::BadRecord(_) => match read_tree(alloc, line)? {
-            Some(tree) => tree_fault(typed, fault, command, &tree),
+        Fault::BadLine(_) => match read_tree(alloc, line)? {
+            Some(tree) => request_fault(typed, command, &tree),
+            None => Ok(None),
+        },
+        Fault::BadRecord(_) => match read_tree(alloc, line)? {
+            Some(tree) => record_fault(typed, &tree),
             None => Ok(None),
         },
         _ => Ok(None),
-    }
-}
-
-// The error in the tree of a line after the opening.
-fn tree_fault(typed: Typed<'_>, fault: &Fault, command: Command, tree: &Value) -> Message {
-    match (fault, command) {
-        (Fault::BadRecord(_), _) => record_fault(typed, tree),
-        (_, Command::Script) => event_fault(typed, tree),
-        (_, Command::Bank { .. }) => job_fault(typed, tree),
     }
 }
 

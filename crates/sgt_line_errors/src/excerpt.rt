@@ -20,45 +20,25 @@ pub(crate) fn excerpt(typed: Typed<'_>, tree: &Value) -> Result<String, NoMemory
 
 /// A word of the input as JSON, shortened in the same way.
 pub(crate) fn word_excerpt(typed: Typed<'_>, word: &str) -> Result<String, NoMemory> {
-    let tree = Value::try_from_str(typed.alloc, word)?;
-    shortened(typed.alloc, tree.to_string(typed.alloc)?.as_str())
+    excerpt(typed, &Value::try_from_str(typed.alloc, word)?)
 }
 
 /// A text without spaces between its parts, as far as it is shown.
 pub(crate) fn shortened(alloc: Global, text: &str) -> Result<String, NoMemory> {
     let mut start = String::new(alloc);
     let mut follower = Follower::new();
-    let mut count = 0;
     for character in text.chars() {
-        let is_space = !follower.is_in_string && matches!(character, ' ' | '\t' | '\r' | '\n');
-        follower.follow(in_strings(character));
+        let is_space = !follower.is_in_string && character.is_ascii_whitespace();
+        follower.follow(u8::try_from(character).unwrap_or(b'x'));
         if is_space {
             continue;
         }
-        if count >= LONGEST {
+        if start.len() >= LONGEST {
             start.push_str("..")?;
             return Ok(start);
         }
-        count += 1;
-        start.push(printable(character))?;
+        let is_printable = (' '..='~').contains(&character);
+        start.push(if is_printable { character } else { '?' })?;
     }
     Ok(start)
-}
-
-// A byte that has the same part in strings as the character.
-fn in_strings(character: char) -> u8 {
-    match character {
-        '"' => b'"',
-        '\\' => b'\\',
-        _ => b'x',
-    }
-}
-
-// The character if it is printable ASCII, else `?`.
-fn printable(character: char) -> char {
-    if (' '..='~').contains(&character) {
-        character
-    } else {
-        '?'
-    }
 }

@@ -1,4 +1,5 @@
 //! The flaws of a procedure in words.
+use crate::message::Message;
 use crate::typed::Typed;
 use serde_json::Value;
 use sgt_model::{LAST_TABLE, NoMemory};
@@ -8,12 +9,9 @@ use sgt_proc::{
 };
 use sgt_proc_json::{ReadError, read};
 
-/// The first position of the least flaw of a procedure, and the position and what is wrong there in words, as
-/// `1 2 1: code 1000 is not from 1 to 999`.
-pub(crate) fn flaw_fault(
-    typed: Typed<'_>,
-    tree: &Value,
-) -> Result<Option<(Vec<u64>, String)>, NoMemory> {
+/// The least flaw of a procedure in words, as `code 1000 is not from 1 to 999`. Its first position is appended to
+/// `position`.
+pub(crate) fn flaw_fault(typed: Typed<'_>, tree: &Value, position: &mut Vec<u64>) -> Message {
     let procedure = match read(typed.alloc, tree) {
         Ok(procedure) => procedure,
         Err(ReadError::Shape(_)) => return Ok(None),
@@ -25,56 +23,35 @@ pub(crate) fn flaw_fault(
     let Some(FlawPlace { place, number }) = flawed.place(typed.alloc)? else {
         return Ok(None);
     };
-    let mut text = String::new(typed.alloc);
-    for (index, position) in place.iter().enumerate() {
-        let space = if index == 0 { "" } else { " " };
-        text = format!(in typed.alloc; "{text}{space}{position}")?;
-    }
-    let (before, following) = words_around(flawed.flaw);
-    text = format!(in typed.alloc; "{text}: {before}{number}{following}")?;
-    if let Some(most) = most(flawed.flaw, i64::from(flawed.procedure.args)) {
-        let words = words_after_most(flawed.flaw);
-        text = format!(in typed.alloc; "{text}{most}{words}")?;
-    }
-    Ok(Some((place, text)))
+    position.extend_from_slice(place.as_slice())?;
+    Ok(Some(words_of(typed, flawed.flaw, number, flawed.procedure.args)?))
 }
 
-// The words before and after the number of a flaw.
-fn words_around(flaw: Flaw) -> (&'static str, &'static str) {
-    match flaw {
-        Flaw::HighRegister => ("register ", " is over "),
-        Flaw::UnsetRegister => ("register ", " is not set on every path that leads here"),
-        Flaw::NoArgument => ("argument ", " is not below "),
-        Flaw::HighTable => ("table ", " is over "),
-        Flaw::TooLong => ("this is statement ", ", and at most "),
-        Flaw::TooDeep => ("this is ", " deep, and at most "),
-        Flaw::ManyAnswers => ("a path has answer ", " here, and at most "),
-        Flaw::BadCode => ("code ", " is not from 1 to "),
-        Flaw::ManyArguments => ("", " arguments are taken, and at most "),
-        Flaw::BadLiteral => ("", " has more than fifteen digits"),
-    }
-}
-
-// The most that the number of a flaw may be, if its text names that, in a procedure that takes this many arguments.
-fn most(flaw: Flaw, arguments: i64) -> Option<i64> {
-    match flaw {
-        Flaw::HighRegister => Some(i64::from(LAST_REGISTER)),
-        Flaw::NoArgument => Some(arguments),
-        Flaw::HighTable => Some(i64::from(LAST_TABLE)),
-        Flaw::TooLong => Some(i64::from(MOST_STATEMENTS)),
-        Flaw::TooDeep => Some(i64::from(DEEPEST)),
-        Flaw::ManyAnswers => Some(i64::from(MOST_ANSWERS)),
-        Flaw::BadCode => Some(i64::from(LAST_CODE)),
-        Flaw::ManyArguments => Some(i64::from(MOST_ARGUMENTS)),
-        Flaw::UnsetRegister | Flaw::BadLiteral => None,
-    }
-}
-
-// The words after that in its text.
-fn words_after_most(flaw: Flaw) -> &'static str {
-    match flaw {
-        Flaw::NoArgument => ", the number of arguments",
-        Flaw::TooLong | Flaw::TooDeep | Flaw::ManyAnswers | Flaw::ManyArguments => " may be",
-        _ => "",
-    }
+// What is wrong with this number, in a procedure that takes this many arguments.
+fn words_of(typed: Typed<'_>, flaw: Flaw, number: i64, arguments: u8) -> Result<String, NoMemory> {
+    let words = match flaw {
+        Flaw::HighRegister => format!(in typed.alloc; "register {number} is over {LAST_REGISTER}"),
+        Flaw::UnsetRegister => format!(in typed.alloc;
+            "register {number} is not set on every path that leads here"
+        ),
+        Flaw::NoArgument => format!(in typed.alloc;
+            "argument {number} is not below {arguments}, the number of arguments"
+        ),
+        Flaw::HighTable => format!(in typed.alloc; "table {number} is over {LAST_TABLE}"),
+        Flaw::TooLong => format!(in typed.alloc;
+            "this is statement {number}, and at most {MOST_STATEMENTS} may be"
+        ),
+        Flaw::TooDeep => format!(in typed.alloc;
+            "this is {number} deep, and at most {DEEPEST} may be"
+        ),
+        Flaw::ManyAnswers => format!(in typed.alloc;
+            "a path has answer {number} here, and at most {MOST_ANSWERS} may be"
+        ),
+        Flaw::BadCode => format!(in typed.alloc; "code {number} is not from 1 to {LAST_CODE}"),
+        Flaw::ManyArguments => format!(in typed.alloc;
+            "{number} arguments are taken, and at most {MOST_ARGUMENTS} may be"
+        ),
+        Flaw::BadLiteral => format!(in typed.alloc; "{number} has more than fifteen digits"),
+    };
+    Ok(words?)
 }

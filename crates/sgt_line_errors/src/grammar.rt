@@ -27,13 +27,6 @@ pub(crate) enum Next {
     End,
 }
 
-/// Where something stands in a text.
-#[derive(Clone, Copy)]
-pub(crate) struct Span {
-    pub begin: usize,
-    pub end: usize,
-}
-
 /// A list or an object that is open.
 #[derive(Clone, Copy)]
 pub(crate) struct Open {
@@ -41,9 +34,9 @@ pub(crate) struct Open {
     /// The index of its bracket.
     pub begin: usize,
     /// The newest name in an object, with its quotes.
-    pub name: Option<Span>,
-    /// The newest value in it that has ended.
-    pub value: Option<Span>,
+    pub name: Option<Token>,
+    /// The newest value in it that has ended. A list or an object is the token that opens it, up to its end.
+    pub value: Option<Token>,
 }
 
 /// A text in JSON up to a token.
@@ -53,7 +46,7 @@ pub(crate) struct Grammar {
     /// What is open, the innermost last.
     pub open: Vec<Open>,
     /// The newest text, with its quotes.
-    pub text: Option<Span>,
+    pub text: Option<Token>,
 }
 
 /// The first token that may not stand where it does, and the text before it.
@@ -67,17 +60,21 @@ pub(crate) struct Wrong {
 /// stand there.
 pub(crate) fn first_wrong(alloc: Global, text: &str) -> Result<Option<Wrong>, NoMemory> {
     let bytes = text.as_bytes();
-    let mut grammar = Grammar::new(alloc);
-    let mut next = 0;
+    let mut grammar = Grammar {
+        next: Next::Line,
+        open: Vec::new(alloc),
+        text: None,
+    };
+    let mut end = 0;
     for at in 0..bytes.len() {
-        if at < next || matches!(bytes[at], b' ' | b'\t' | b'\r' | b'\n') {
+        if at < end || matches!(bytes[at], b' ' | b'\t' | b'\r' | b'\n') {
             continue;
         }
         let token = token_at(alloc, text, at)?;
         if !grammar.take(token)? {
             return Ok(Some(Wrong { grammar, token }));
         }
-        next = token.end;
+        end = token.end;
     }
     if grammar.open.is_empty() && matches!(grammar.next, Next::End) {
         return Ok(None);
@@ -90,139 +87,85 @@ pub(crate) fn first_wrong(alloc: Global, text: &str) -> Result<Option<Wrong>, No
     Ok(Some(Wrong { grammar, token }))
 }
 
-impl Next {
-    /// Whether a value may come.
-    fn takes_value(self) -> bool {
-        matches!(
-            self,
-            Next::Line | Next::FirstItem | Next::Item | Next::Value
-        )
-    }
-}
-
 impl Grammar {
-    /// Before a line.
-    fn new(alloc: Global) -> Self {
-        Grammar {
-            next: Next::Line,
-            open: Vec::new(alloc),
-            text: None,
-        }
-    }
-
     // Takes the next token, and returns whether it may stand there.
     fn take(&mut self, token: Token) -> Result<bool, NoMemory> {
-        match token.kind {
-            TokenKind::Opens(kind) => return self.enter(kind, token.at),
-            TokenKind::Closes(kind) => return Ok(self.leave(kind, token.end)),
-            _ => (),
-        }
         let Some(next) = self.after(token.kind) else {
             return Ok(false);
         };
-        let span = Span {
-            begin: token.at,
-            end: token.end,
-        };
-        match (next, token.kind) {
-            (Next::Colon, _) => self.note_name(span),
-            (Next::End, _) => self.note_value(span),
+        let mut value = token;
+        match token.kind {
+            TokenKind::Opens(kind) => self.open.push(Open {
+                kind,
+                begin: token.at,
+                name: None,
+                value: None,
+            })?,
+            TokenKind::Closes(kind) => if let Some(top) = self.open.pop() {
+                value.kind = TokenKind::Opens(kind);
+                value.at = top.begin;
+            },
+            TokenKind::Text => self.text = Some(token),
             _ => (),
         }
-        if matches!(token.kind, TokenKind::Text) {
-            self.text = Some(span);
+        if let Some(top) = self.open.last_mut() {
+            match next {
+                Next::Colon => top.name = Some(token),
+                Next::End => top.value = Some(value),
+                _ => (),
+            }
         }
         self.next = next;
         Ok(true)
     }
 
-    // What may come after a token that is no bracket. None if it may not stand here.
+    // What may come after such a token. None if it may not stand here.
     fn after(&self, kind: TokenKind) -> Option<Next> {
+        let innermost = self.open.last().map(|top| top.kind);
         match (self.next, kind) {
             (Next::Colon, TokenKind::Colon) => Some(Next::Value),
             (Next::FirstName | Next::Name, TokenKind::Text) => Some(Next::Colon),
-            (Next::End, TokenKind::Comma) => match self.open.last()?.kind {
+            (Next::End, TokenKind::Comma) => match innermost? {
                 Kind::List => Some(Next::Item),
                 Kind::Object => Some(Next::Name),
             },
-            (next, TokenKind::Text | TokenKind::Plain) if next.takes_value() => Some(Next::End),
+            (Next::FirstItem | Next::FirstName | Next::End, TokenKind::Closes(kind))
+                if innermost == Some(kind) => Some(Next::End),
+            (_, TokenKind::Opens(Kind::List)) if self.may_open() => Some(Next::FirstItem),
+            (_, TokenKind::Opens(Kind::Object)) if self.may_open() => Some(Next::FirstName),
+            (_, TokenKind::Text | TokenKind::Plain) if self.takes_value() => Some(Next::End),
             _ => None,
         }
     }
 
-    // Opens a list or an object with the bracket at this index, and returns whether it may stand there.
-    fn enter(&mut self, kind: Kind, begin: usize) -> Result<bool, NoMemory> {
-        if !self.next.takes_value() || self.is_deepest() {
-            return Ok(false);
-        }
-        self.open.push(Open {
-            kind,
-            begin,
-            name: None,
-            value: None,
-        })?;
-        self.next = match kind {
-            Kind::List => Next::FirstItem,
-            Kind::Object => Next::FirstName,
-        };
-        Ok(true)
+    // Whether a value may come.
+    fn takes_value(&self) -> bool {
+        matches!(
+            self.next,
+            Next::Line | Next::FirstItem | Next::Item | Next::Value
+        )
     }
 
-    // Closes a list or an object with the bracket before this index, and returns whether it may stand there.
-    fn leave(&mut self, kind: Kind, end: usize) -> bool {
-        let Some(top) = self.open.last().copied() else {
-            return false;
-        };
-        let may_end = matches!(self.next, Next::FirstItem | Next::FirstName | Next::End);
-        if !may_end || !top.kind.is(kind) {
-            return false;
-        }
-        self.open.pop();
-        self.note_value(Span {
-            begin: top.begin,
-            end,
-        });
-        self.next = Next::End;
-        true
-    }
-
-    fn note_name(&mut self, name: Span) {
-        if let Some(top) = self.open.last_mut() {
-            top.name = Some(name);
-        }
-    }
-
-    fn note_value(&mut self, value: Span) {
-        if let Some(top) = self.open.last_mut() {
-            top.value = Some(value);
-        }
-    }
-
-    // Whether as many lists and objects are open as may be.
-    fn is_deepest(&self) -> bool {
-        self.open.len() >= DEEPEST
+    // Whether a list or an object may come.
+    fn may_open(&self) -> bool {
+        self.takes_value() && self.open.len() < DEEPEST
     }
 }
 
 impl Wrong {
     /// Whether a list or an object begins here that is too deep.
     pub(crate) fn is_too_deep(&self) -> bool {
-        matches!(self.token.kind, TokenKind::Opens(_))
-            && self.grammar.next.takes_value()
-            && self.grammar.is_deepest()
+        matches!(self.token.kind, TokenKind::Opens(_)) && self.grammar.takes_value()
     }
 
     /// The newest text, if it ends right before a word or a number here.
-    pub(crate) fn text_before(&self) -> Option<Span> {
-        let text = self.grammar.text?;
+    pub(crate) fn text_before(&self) -> Option<Token> {
         let is_word = matches!(
             self.token.kind,
             TokenKind::Word | TokenKind::Plain | TokenKind::BadNumber
         );
-        if is_word && text.end == self.token.at {
-            Some(text)
-        } else {
-            None
-        }
+        self.grammar
+            .text
+            .filter(|text| is_word && text.end == self.token.at)
     }
 }

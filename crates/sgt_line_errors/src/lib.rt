@@ -17,7 +17,6 @@
 //! ```
 #![tactic(auto)]
 
-mod account;
 mod brackets;
 mod column;
 mod command;
@@ -26,13 +25,11 @@ mod excerpt;
 mod flaw;
 mod grammar;
 mod json_text;
-mod limit;
 mod message;
 mod newest;
 mod opening;
 mod part;
 mod reason;
-mod record;
 mod refusal;
 mod remembering;
 mod request;

@@ -1,6 +1,6 @@
 //! Messages that several errors have.
 use crate::excerpt::{excerpt, word_excerpt};
-use crate::typed::{Follower, Typed};
+use crate::typed::Typed;
 use serde_json::Value;
 use sgt_format::items;
 use sgt_model::NoMemory;
@@ -10,43 +10,31 @@ pub(crate) type Message = Result<Option<String>, NoMemory>;
 
 /// The message that something else was expected than this tree.
 pub(crate) fn unexpected(typed: Typed<'_>, wanted: &str, tree: &Value) -> Message {
-    let found = found(typed, wanted, tree)?;
-    Ok(Some(format!(in typed.alloc; "expected {wanted}, found {found}")?))
+    Ok(Some(expected(typed, wanted, tree)?))
 }
 
-/// What is said of a tree that was found in place of a list of this form: its start. If that does not show the end of a
-/// list of another length, it also says how many parts the list has.
-pub(crate) fn found(typed: Typed<'_>, form: &str, tree: &Value) -> Result<String, NoMemory> {
-    let shown = excerpt(typed, tree)?;
-    let Some(found) = items(tree) else {
-        return Ok(shown);
-    };
-    let (count, wanted) = (found.len(), parts_of(form));
-    if wanted == 0 || wanted == count || !shown.as_bytes().ends_with(b"..") {
-        return Ok(shown);
+/// What is said of a tree that was found in place of what is wanted: its start. If that does not show the end of a list
+/// and the words begin with the form of a list of another length, it also says how many parts the list has.
+pub(crate) fn expected(typed: Typed<'_>, wanted: &str, tree: &Value) -> Result<String, NoMemory> {
+    let found = excerpt(typed, tree)?;
+    let count = items(tree).map_or(0, |items| items.len());
+    let parts = parts_of(wanted);
+    if count == 0 || parts == 0 || parts == count || !found.as_str().ends_with("..") {
+        return Ok(format!(in typed.alloc; "expected {wanted}, found {found}")?);
     }
     Ok(format!(in typed.alloc;
-        "{shown} with {count} parts, not {wanted}: a bracket may end too early or too late"
+        "expected {wanted}, found {found} with {count} parts, not {parts}: a bracket may end too early or too late"
     )?)
 }
 
-// How many parts the list has whose form this text begins with, if it begins with one.
-fn parts_of(form: &str) -> usize {
-    if !form.as_bytes().starts_with(b"[") {
-        return 0;
+// How many parts the list has whose form these words begin with, or 0. Two dots go with the part before them.
+fn parts_of(words: &str) -> usize {
+    let parts = words.split(',').filter(|part| !part.starts_with(".."));
+    if words.starts_with('[') {
+        parts.count()
+    } else {
+        0
     }
-    let mut follower = Follower::new();
-    let mut parts = 1usize;
-    for byte in form.as_bytes() {
-        follower.follow(*byte);
-        if follower.depth() == 0 {
-            return parts;
-        }
-        if *byte == b',' && follower.depth() == 1 {
-            parts = parts.saturating_add(1);
-        }
-    }
-    parts
 }
 
 /// The message that nothing starts with this word, and what it has to start with.

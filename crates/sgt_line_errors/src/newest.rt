@@ -1,5 +1,5 @@
 //! The newest lines of an input.
-ghost use Rattle.std.specs.Prelude.{IfSome, false, length, ◌≡◌, ◌≤◌};
+ghost use Rattle.std.specs.Prelude.{IfSome, false, ◌≡◌};
 ghost use Rattle.sgt_input.specs.Lines.{has_break};
 
 use memchr::memchr;
@@ -111,38 +111,14 @@ fn until_break(bytes: &[u8]) -> &[u8]
 }
 
 // The number of newlines.
-fn count_breaks(bytes: &[u8]) -> usize
-    ensures { result ≤ length bytes.now }
-{
-    let mut rest = bytes;
-    let mut count = 0;
-    while let Some(block) = rest.first_chunk::<AT_ONCE>() {
-        count += breaks_in(*block);
-        rest = &rest[AT_ONCE..];
-    }
-    count + count_each(rest)
-}
-
-// The number of newlines in a block of bytes.
-#[inline(always)]
-fn breaks_in(block: [u8; AT_ONCE]) -> usize
-    ensures { result ≤ 64 }
-{
-    let marks = u8x64::from_array(block)
-        .simd_eq(u8x64::splat(b'\n'))
-        .to_bitmask();
-    (marks.count_ones() as usize).min(AT_ONCE)
-}
-
-// The number of newlines, byte by byte.
-fn count_each(bytes: &[u8]) -> usize
-    ensures { result ≤ length bytes.now }
-{
-    let mut at = 0;
-    let mut count = 0;
-    while at < bytes.len() {
-        count += usize::from(bytes[at] == b'\n');
-        at += 1;
+fn count_breaks(bytes: &[u8]) -> usize {
+    let (blocks, rest) = bytes.as_chunks::<AT_ONCE>();
+    let mut count = rest.iter().filter(|byte| **byte == b'\n').count();
+    for block in blocks {
+        let marks = u8x64::from_array(*block)
+            .simd_eq(u8x64::splat(b'\n'))
+            .to_bitmask();
+        count = count.saturating_add(marks.count_ones() as usize);
     }
     count
 }

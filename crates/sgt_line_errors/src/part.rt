@@ -1,9 +1,9 @@
-//! What may be at a position of a procedure in JSON.
+//! What may be at a position of a procedure or of a request in JSON.
 use sgt_model::NoMemory;
 use std::alloc::Global;
 
-/// What may be at a position of a procedure in JSON.
-#[derive(Clone, Copy)]
+/// What may be at a position of a procedure or of a request in JSON.
+#[derive(Clone, Copy, PartialEq)]
 pub(crate) enum Part {
     /// `[args,[statement,..]]`.
     Procedure,
@@ -20,6 +20,16 @@ pub(crate) enum Part {
     Argument,
     Table,
     Code,
+    /// The number of a transaction.
+    Transaction,
+    /// The number of a record in its table.
+    Number,
+    /// The value of a record.
+    Value,
+    /// The number of a procedure.
+    Called,
+    /// A list of the arguments of a call.
+    Given,
 }
 
 impl Part {
@@ -68,9 +78,12 @@ impl Part {
         }
     }
 
-    /// What this is, if it is or may be a list that starts with a word.
+    /// How this is written, if it is or may be a list that starts with a word, or is a procedure.
     pub(crate) fn rule(self) -> Option<&'static str> {
         match self {
+            Part::Procedure => Some(
+                "a procedure is a list in the list of procedures, as [[0,[[\"answer\",7]]]]",
+            ),
             Part::Statement => Some(
                 "a statement is a list that starts with its word, as [\"ask\",7]",
             ),
@@ -82,6 +95,14 @@ impl Part {
             ),
             _ => None,
         }
+    }
+
+    /// Whether it may be a list.
+    pub(crate) fn is_list(self) -> bool {
+        matches!(
+            self,
+            Part::Procedure | Part::Block | Part::Statement | Part::Expression | Part::Condition
+        )
     }
 
     // Its name in such a list, and its description.
@@ -97,43 +118,37 @@ impl Part {
             Part::Argument => ("argument", "an argument from 0 to 3"),
             Part::Table => ("table", "a table from 0 to 7"),
             Part::Code => ("code", "a code from 1 to 999"),
+            Part::Transaction => ("transaction", "a transaction from 0 to 4294967295"),
+            Part::Number => (
+                "number",
+                "a whole number of at most 15 digits as the number",
+            ),
+            Part::Value => ("value", "a whole number of at most 15 digits as the value"),
+            Part::Called => ("procedure", "a procedure from 0 to 65535"),
+            Part::Given => ("[argument,..]", "a list of arguments"),
         }
     }
 }
 
 /// What a list is that starts with the word, and what follows the word.
 pub(crate) fn row(word: &str) -> Option<(Part, &'static [Part])> {
+    use Part::{Argument, Block, Code, Condition, Expression, Register, Statement, Table};
     match word {
-        "look" => Some((Part::Statement, LOOK)),
-        "find" => Some((Part::Statement, FIND)),
-        "put" => Some((Part::Statement, PUT)),
-        "remove" => Some((Part::Statement, &[Part::Table, Part::Expression])),
-        "let" => Some((Part::Statement, &[Part::Register, Part::Expression])),
-        "ask" => Some((Part::Statement, &[Part::Code])),
-        "if" => Some((Part::Statement, IF)),
-        "answer" => Some((Part::Statement, &[Part::Expression])),
-        "arg" => Some((Part::Expression, &[Part::Argument])),
-        "reg" => Some((Part::Expression, &[Part::Register])),
-        "sum" | "diff" | "product" | "quotient" => Some((Part::Expression, TWO)),
-        "less" | "most" | "same" => Some((Part::Condition, TWO)),
+        "look" => Some((Statement, &[Register, Table, Expression, Code])),
+        "find" => Some((Statement, &[Register, Table, Expression, Expression])),
+        "put" => Some((Statement, &[Table, Expression, Expression])),
+        "remove" => Some((Statement, &[Table, Expression])),
+        "let" => Some((Statement, &[Register, Expression])),
+        "ask" => Some((Statement, &[Code])),
+        "if" => Some((Statement, &[Condition, Block, Block])),
+        "answer" => Some((Statement, &[Expression])),
+        "arg" => Some((Expression, &[Argument])),
+        "reg" => Some((Expression, &[Register])),
+        "sum" | "diff" | "product" | "quotient" => Some((Expression, &[Expression, Expression])),
+        "less" | "most" | "same" => Some((Condition, &[Expression, Expression])),
         _ => None,
     }
 }
 
 /// What a procedure is made of.
 pub(crate) const PROCEDURE: &[Part] = &[Part::Arguments, Part::Block];
-
-const LOOK: &[Part] = &[Part::Register, Part::Table, Part::Expression, Part::Code];
-
-const FIND: &[Part] = &[
-    Part::Register,
-    Part::Table,
-    Part::Expression,
-    Part::Expression,
-];
-
-const PUT: &[Part] = &[Part::Table, Part::Expression, Part::Expression];
-
-const IF: &[Part] = &[Part::Condition, Part::Block, Part::Block];
-
-const TWO: &[Part] = &[Part::Expression, Part::Expression];

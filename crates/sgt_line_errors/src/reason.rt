@@ -1,27 +1,14 @@
 //! Why a token may not stand where it does in a line, in words.
 use crate::brackets::wrong_end;
 use crate::excerpt::shortened;
-use crate::grammar::{Next, Open, Span, Wrong};
+use crate::grammar::{Next, Open, Wrong};
 use crate::message::copied;
 use crate::opening::MEMBERS;
-use crate::token::{Kind, TokenKind};
+use crate::token::{Kind, Token, TokenKind};
 use crate::typed::Typed;
 use sgt_model::NoMemory;
 
-const BAD_NUMBER: &str =
-    "a number is written as 10 or -5, without a plus, a leading zero or other signs";
-
-const CONTROL: &str =
-    "a tab or another control character stands in a text as \\t, or as \\u and four hexadecimal digits";
-
-const BAD_ESCAPE: &str =
-    "in a text a backslash stands before \", \\, /, b, f, n, r, t, or u and four hexadecimal digits";
-
 const LIST_ENDS: &str = "a list ends in ]";
-
-const OBJECT_ENDS: &str = "an object ends in }";
-
-const IN_QUOTES: &str = "a text stands in double quotes";
 
 const A_LIST: &str = "a list stands in square brackets";
 
@@ -35,15 +22,15 @@ const LINE_ENDS: &str = "the JSON of this line ends before it";
 
 /// Why the first wrong token of a line may not stand there, or what may.
 pub(crate) fn reason(typed: Typed<'_>, wrong: &Wrong) -> Result<String, NoMemory> {
-    let rest = typed.text.get(wrong.token.at..).unwrap_or(b"");
-    if let Some(words) = key_words(typed, wrong, rest)? {
-        return Ok(words);
+    let rest = typed.part(wrong.token.at, typed.text.len());
+    if let Some(words) = key_words(typed, wrong, rest) {
+        return copied(typed, words);
     }
     if let Some(text) = wrong.text_before() {
         if begins_number(rest) {
             return copied(typed, "a comma is missing before it");
         }
-        let column = text.begin.saturating_add(1);
+        let column = text.at.saturating_add(1);
         return Ok(format!(in typed.alloc;
             "the text at column {column} is followed by a word: a quote may be missing in it"
         )?);
@@ -65,38 +52,29 @@ pub(crate) fn reason(typed: Typed<'_>, wrong: &Wrong) -> Result<String, NoMemory
             )?)
         }
         (Next::End, None, _) => line_reason(typed, wrong, rest),
-        (next, top, kind) => {
-            let words = words_at(next, top, kind, rest);
-            copied(typed, words)
-        }
+        (next, top, kind) => copied(typed, words_at(next, top, kind, rest)),
     }
 }
 
-// What is said of a slash between the digits of a key, as replies and databases have it, and these bytes begin with it.
-fn key_words(typed: Typed<'_>, wrong: &Wrong, rest: &[u8]) -> Result<Option<String>, NoMemory> {
-    let before = typed.text.get(..wrong.token.at).unwrap_or(b"");
+// What is said of a slash between the digits of a key, as replies and databases have it, if these bytes begin with it.
+fn key_words(typed: Typed<'_>, wrong: &Wrong, rest: &[u8]) -> Option<&'static str> {
     let [b'/', rest @ ..] = rest else {
-        return Ok(None);
+        return None;
     };
-    if !begins_number(rest) || !ends_in_digit(before) {
-        return Ok(None);
+    let before = typed.part(0, wrong.token.at).last()?;
+    if !begins_number(rest) || !before.is_ascii_digit() {
+        return None;
     }
-    let words = if wrong.grammar.open.is_empty() {
+    Some(if wrong.grammar.open.is_empty() {
         "a record is written as [\"record\",table,number,value], as --records does"
     } else {
         "a key is written as two numbers, its table and its number: 2,101 for 2/101"
-    };
-    Ok(Some(copied(typed, words)?))
+    })
 }
 
 // Whether these bytes begin with a digit or a minus sign.
 fn begins_number(text: &[u8]) -> bool {
     matches!(text.first(), Some(b'0'..=b'9' | b'-'))
-}
-
-// Whether these bytes end with a digit.
-fn ends_in_digit(text: &[u8]) -> bool {
-    matches!(text.last(), Some(b'0'..=b'9'))
 }
 
 // What is said of a value that stands where the name of a member of this object has to.
@@ -106,10 +84,9 @@ fn name_reason(typed: Typed<'_>, wrong: &Wrong, object: &Open) -> Result<String,
     };
     let column = value.end;
     let name = part_of(typed, name);
-    let opens_list = matches!(wrong.token.kind, TokenKind::Opens(Kind::List));
     let shown = shortened(typed.alloc, name)?;
-    match (typed.text.get(value.begin), opens_list) {
-        (Some(b'['), true) => {
+    match (value.kind, wrong.token.kind) {
+        (TokenKind::Opens(Kind::List), TokenKind::Opens(Kind::List)) => {
             let hint = if has_end_too_many(typed, wrong, value)? {
                 "a ] is too many"
             } else {
@@ -119,7 +96,7 @@ fn name_reason(typed: Typed<'_>, wrong: &Wrong, object: &Open) -> Result<String,
                 "{A_NAME}: the list of {shown} ended at column {column}: {hint}"
             )?)
         }
-        (Some(b'[' | b'{'), _) => copied(typed, A_NAME),
+        (TokenKind::Opens(_), _) => copied(typed, A_NAME),
         _ if is_request(typed, wrong, object) => Ok(format!(in typed.alloc;
             "{A_NAME}; {A_REQUEST}"
         )?),
@@ -130,16 +107,10 @@ fn name_reason(typed: Typed<'_>, wrong: &Wrong, object: &Open) -> Result<String,
 }
 
 // Whether a list has ended too early: it has lists, or more ends come than begin.
-fn has_end_too_many(typed: Typed<'_>, wrong: &Wrong, list: Span) -> Result<bool, NoMemory> {
-    let items = typed
-        .text
-        .get(list.begin.saturating_add(1)..)
-        .unwrap_or(b"");
-    let rest = typed.text.get(wrong.token.at..).unwrap_or(b"");
-    let end = match wrong_end(typed.alloc, rest)? {
-        Some(index) => rest.get(index).copied(),
-        None => None,
-    };
+fn has_end_too_many(typed: Typed<'_>, wrong: &Wrong, list: Token) -> Result<bool, NoMemory> {
+    let items = typed.part(list.at.saturating_add(1), typed.text.len());
+    let rest = typed.part(wrong.token.at, typed.text.len());
+    let end = wrong_end(typed.alloc, rest)?;
     Ok(items.trim_ascii_start().starts_with(b"[") || end == Some(b']'))
 }
 
@@ -148,72 +119,55 @@ fn is_request(typed: Typed<'_>, wrong: &Wrong, object: &Open) -> bool {
     let Some(name) = object.name else {
         return false;
     };
-    let name = part_of(
-        typed,
-        Span {
-            begin: name.begin.saturating_add(1),
-            end: name.end.saturating_sub(1),
-        },
-    );
+    let name = part_of(typed, name).trim_matches('"');
     wrong.grammar.open.len() == 1 && !MEMBERS.contains(&name)
 }
 
 // Whether this list has the name of a member, and so may have ended before it.
 fn lacks_end(wrong: &Wrong, list: &Open) -> bool {
-    let in_object = match wrong.grammar.open.first() {
-        Some(first) => matches!(first.kind, Kind::Object),
-        None => false,
-    };
-    let is_text = match (wrong.grammar.text, list.value) {
-        (Some(text), Some(value)) => text.begin == value.begin,
-        _ => false,
-    };
-    in_object && is_text && matches!(list.kind, Kind::List)
+    let outermost = wrong.grammar.open.first();
+    outermost.is_some_and(|outermost| outermost.kind == Kind::Object)
+        && list.kind == Kind::List
+        && list
+            .value
+            .is_some_and(|value| matches!(value.kind, TokenKind::Text))
 }
 
-// What stands there in the line, if that is UTF-8.
-fn part_of<'a>(typed: Typed<'a>, span: Span) -> &'a str {
-    str::from_utf8(typed.text.get(span.begin..span.end).unwrap_or(b"")).unwrap_or("")
+// What the token is in the line, if that is UTF-8.
+fn part_of<'a>(typed: Typed<'a>, token: Token) -> &'a str {
+    str::from_utf8(typed.part(token.at, token.end)).unwrap_or("")
 }
 
-// What is said of a token after the value that a line is.
+// What is said of a token after the value that a line is, which begins these bytes.
 fn line_reason(typed: Typed<'_>, wrong: &Wrong, rest: &[u8]) -> Result<String, NoMemory> {
     let has_ended_early = wrong_end(typed.alloc, rest)?.is_some();
-    let begins = typed.text.trim_ascii_start().first().copied();
-    match words_after(wrong.token.kind, begins, has_ended_early, rest) {
-        Some(words) => Ok(format!(in typed.alloc; "{LINE_ENDS}: {words}")?),
-        None => copied(typed, LINE_ENDS),
-    }
-}
-
-// What is said more of it, where the line begins with this byte, and whether more lists or objects end than begin.
-fn words_after(
-    kind: TokenKind,
-    begins: Option<u8>,
-    has_ended_early: bool,
-    rest: &[u8],
-) -> Option<&'static str> {
-    match (kind, begins) {
+    let words = match (wrong.token.kind, typed.text.trim_ascii_start()) {
         (TokenKind::Closes(_), _) => Some("this bracket closes nothing, and may be too many"),
         (TokenKind::Other, _) => other_words(rest),
-        (TokenKind::Colon, Some(b'"')) => Some("an object stands in { }"),
-        (_, Some(b'[')) if has_ended_early => Some("a ] before it is too many"),
-        (_, Some(b'{')) if has_ended_early => Some("a } before it is too many"),
-        (_, Some(b'[' | b'{')) => Some("each event, job or record stands on a line of its own"),
+        (TokenKind::Colon, [b'"', ..]) => Some("an object stands in { }"),
+        (_, [b'[', ..]) if has_ended_early => Some("a ] before it is too many"),
+        (_, [b'{', ..]) if has_ended_early => Some("a } before it is too many"),
+        (_, [b'[' | b'{', ..]) => Some("each event, job or record stands on a line of its own"),
         _ => Some(A_LIST),
+    };
+    match words {
+        Some(words) => Ok(format!(in typed.alloc; "{LINE_ENDS}: {words}")?),
+        None => copied(typed, LINE_ENDS),
     }
 }
 
 // What is said of a token like this, which begins these bytes, where this has to come next in what is open.
 fn words_at(next: Next, top: Option<&Open>, kind: TokenKind, rest: &[u8]) -> &'static str {
     match (next, kind) {
-        (_, TokenKind::Control) => CONTROL,
-        (_, TokenKind::BadEscape) => BAD_ESCAPE,
+        (_, TokenKind::Control) =>
+            "a tab or another control character stands in a text as \\t, or as \\u and four hexadecimal digits",
+        (_, TokenKind::BadEscape) =>
+            "in a text a backslash stands before \", \\, /, b, f, n, r, t, or u and four hexadecimal digits",
         (_, TokenKind::HalfCharacter) => "an escape in this text is half a character",
         (Next::End, kind) => separator_words(top, kind, rest),
         (Next::Line, TokenKind::Closes(_)) => "nothing is open that this could close",
         (Next::FirstItem, TokenKind::Closes(_)) => LIST_ENDS,
-        (Next::FirstName, TokenKind::Closes(_)) => OBJECT_ENDS,
+        (Next::FirstName, TokenKind::Closes(_)) => "an object ends in }",
         (Next::Value, TokenKind::Closes(_) | TokenKind::Comma) =>
             "a value is missing after the colon",
         (Next::Item | Next::Name, TokenKind::Closes(_)) =>
@@ -229,7 +183,8 @@ fn words_at(next: Next, top: Option<&Open>, kind: TokenKind, rest: &[u8]) -> &'s
             "the name of a member stands here in double quotes; a list stands in square brackets",
         (Next::Name | Next::FirstName, TokenKind::Other) => other_words(rest).unwrap_or(A_NAME),
         (Next::Name | Next::FirstName, _) => A_NAME,
-        (_, TokenKind::BadNumber) => BAD_NUMBER,
+        (_, TokenKind::BadNumber) =>
+            "a number is written as 10 or -5, without a plus, a leading zero or other signs",
         _ => other_words(rest).unwrap_or(
             "a value stands here: a number, a text in double quotes, or a list in square brackets",
         ),
@@ -249,10 +204,7 @@ fn word_words(rest: &[u8]) -> &'static str {
 
 // What is said of a token where a comma or the end of what is open has to come.
 fn separator_words(top: Option<&Open>, kind: TokenKind, rest: &[u8]) -> &'static str {
-    let is_list = match top {
-        Some(top) => matches!(top.kind, Kind::List),
-        None => false,
-    };
+    let is_list = top.is_some_and(|top| top.kind == Kind::List);
     match kind {
         TokenKind::Closes(_) if is_list => LIST_ENDS,
         TokenKind::Closes(_) =>
@@ -281,7 +233,7 @@ fn begins_value(kind: TokenKind) -> bool {
 // What is said of bytes that begin no token, if they are known.
 fn other_words(rest: &[u8]) -> Option<&'static str> {
     match rest {
-        [b'\'' | b'`', ..] => Some(IN_QUOTES),
+        [b'\'' | b'`', ..] => Some("a text stands in double quotes"),
         [b'(', ..] => Some(A_LIST),
         [b'#' | b'/', ..] => Some("there are no comments"),
         [0xe2, 0x80, 0x98..=0x9f, ..] | [0xc2, 0xab | 0xbb, ..] => Some(

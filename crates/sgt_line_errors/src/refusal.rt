@@ -3,13 +3,10 @@ ghost use Rattle.std.specs.Prelude.{◌≢◌, IfOk, OnOk, IsSome};
 ghost use Rattle.sgt_format.specs.declared.errors.OpeningError.{OpeningError};
 ghost use Rattle.sgt_line_errors.specs.Refusals.{SpellsNoOpening, SpellsNoProcedure};
 
-use crate::account::account_fault;
-use crate::column::{Place, placed};
 use crate::flaw::flaw_fault;
 use crate::json_text::json_fault;
-use crate::limit::limit_fault;
-use crate::message::Message;
-use crate::opening::opening_fault;
+use crate::message::{Message, copied};
+use crate::opening::{account_fault, limit_fault, opening_fault};
 use crate::shape_error::shape_error;
 use crate::typed::Typed;
 use serde_json::Value;
@@ -80,28 +77,27 @@ fn explained(typed: Typed<'_>, error: &OpeningError, least: Option<u32>) -> Mess
     match error {
         OpeningError::NoMemory => Err(NoMemory),
         OpeningError::NotJson => json_fault(typed, u64::from(least.is_some())),
-        _ => match (read_tree(typed.alloc, typed.text)?, least) {
-            (Some(tree), Some(least)) => opening_tree_fault(typed, error, least, &tree),
-            (Some(tree), None) => procedure_fault(typed, error, &tree),
-            (None, _) => Ok(None),
+        _ => match read_tree(typed.alloc, typed.text)? {
+            Some(tree) => tree_fault(typed, error, least, &tree),
+            None => Ok(None),
         },
     }
 }
 
-// The error of an opening, from its tree.
-fn opening_tree_fault(
-    typed: Typed<'_>,
-    error: &OpeningError,
-    least: u32,
-    opening: &Value,
-) -> Message {
+// The same from the text's tree.
+fn tree_fault(typed: Typed<'_>, error: &OpeningError, least: Option<u32>, tree: &Value) -> Message {
     match error {
-        OpeningError::BadLine => opening_fault(typed, opening),
-        OpeningError::BadLimits => limit_fault(typed, least, member(opening, "limits")),
-        OpeningError::BadOpening(_) => account_fault(typed, member(opening, "accounts")),
+        OpeningError::BadLine => opening_fault(typed, tree),
+        OpeningError::BadLimits => limit_fault(typed, least.unwrap_or(1), member(tree, "limits")),
+        OpeningError::BadOpening(_) => account_fault(typed, member(tree, "accounts")),
         OpeningError::ProcShape(number, _) | OpeningError::ProcFlaw(number, _) => {
-            match procedure(opening, *number) {
-                Some(tree) => procedure_fault(typed, error, tree),
+            let index = number.saturating_sub(u64::from(PROCEDURES));
+            let procedure = match least {
+                Some(_) => member(tree, "procedures").get(index as usize),
+                None => Some(tree),
+            };
+            match procedure {
+                Some(procedure) => procedure_fault(typed, error, *number, procedure),
                 None => Ok(None),
             }
         }
@@ -109,39 +105,31 @@ fn opening_tree_fault(
     }
 }
 
-// The error of a procedure, from its tree. Its position is shown as in the fault's own line.
-fn procedure_fault(typed: Typed<'_>, error: &OpeningError, procedure: &Value) -> Message {
-    match error {
-        OpeningError::ProcShape(number, place) => {
-            match shape_error(typed, procedure, place.as_slice())? {
-                Some(what) => {
-                    let text = format!(in typed.alloc; "procedure {number}, at {place}: {what}")?;
-                    placed_in(typed, *number, place.as_slice(), text)
-                }
-                None => Ok(None),
-            }
+// The error of the procedure of this number, from its tree. Its position is shown as in the fault's own line.
+fn procedure_fault(
+    typed: Typed<'_>,
+    error: &OpeningError,
+    number: u64,
+    procedure: &Value,
+) -> Message {
+    let mut place = Vec::new(typed.alloc);
+    let what = match error {
+        OpeningError::ProcShape(_, shape) => {
+            place.extend_from_slice(shape.as_slice())?;
+            shape_error(typed, procedure, shape.as_slice())?
         }
-        OpeningError::ProcFlaw(number, _) => match flaw_fault(typed, procedure)? {
-            Some((place, what)) => {
-                let text = format!(in typed.alloc; "procedure {number}, at {what}")?;
-                placed_in(typed, *number, place.as_slice(), text)
-            }
-            None => Ok(None),
-        },
-        _ => Ok(None),
+        _ => flaw_fault(typed, procedure, &mut place)?,
+    };
+    let Some(what) = what else {
+        return Ok(None);
+    };
+    let mut shown = copied(typed, if place.is_empty() { " top" } else { "" })?;
+    for position in place.as_slice() {
+        shown = format!(in typed.alloc; "{shown} {position}")?;
     }
-}
-
-// What is said about a place of the opening's procedure of this number, after its column.
-fn placed_in(typed: Typed<'_>, number: u64, place: &[u64], text: String) -> Message {
-    let mut positions = Vec::new(typed.alloc);
-    positions.push(number.saturating_sub(u64::from(PROCEDURES)))?;
-    positions.extend_from_slice(place)?;
-    placed(
-        typed,
-        Place::in_member("procedures", positions.as_slice()),
-        Ok(Some(text)),
-    )
+    let text = format!(in typed.alloc; "procedure {number}, at{shown}: {what}")?;
+    place.insert(0, number.saturating_sub(u64::from(PROCEDURES)))?;
+    typed.placed(Some("procedures"), place.as_slice(), text)
 }
 
 // The items of a member of an object, or none.
@@ -150,10 +138,4 @@ fn member<'a>(tree: &'a Value, name: &str) -> &'a [Value] {
         Some(member) => items(member).unwrap_or(&[]),
         None => &[],
     }
-}
-
-// The opening's procedure of this number.
-fn procedure(opening: &Value, number: u64) -> Option<&Value> {
-    let index = number.checked_sub(u64::from(PROCEDURES))?;
-    member(opening, "procedures").get(index as usize)
 }

@@ -1,15 +1,11 @@
 //! What is wrong at the position of a procedure's first shape error.
-use crate::excerpt::{excerpt, word_excerpt};
-use crate::message::{Message, unexpected, unknown};
+use crate::excerpt::word_excerpt;
+use crate::message::{Message, expected, unexpected, unknown};
 use crate::part::{Part, row};
-use crate::tree::word_of;
+use crate::tree::word_in;
 use crate::typed::Typed;
 use serde_json::Value;
 use sgt_format::items;
-
-/// What is said of a procedure that is no list.
-const A_PROCEDURE: &str =
-    "a procedure is a list in the list of procedures, as [[0,[[\"answer\",7]]]]";
 
 /// The message for the first shape error of a procedure.
 pub(crate) fn shape_error(typed: Typed<'_>, procedure: &Value, place: &[u64]) -> Message {
@@ -27,42 +23,35 @@ pub(crate) fn shape_error(typed: Typed<'_>, procedure: &Value, place: &[u64]) ->
 
 // What may be at a position of a list, and what is there.
 fn item_at(part: Part, tree: &Value, position: usize) -> Option<(Part, &Value)> {
-    let items = items(tree)?;
-    Some((part.at(word_of(items), position)?, items.get(position)?))
+    let item = items(tree)?.get(position)?;
+    Some((part.at(word_in(tree), position)?, item))
 }
 
 // Why a tree does not fit where this is required.
 fn shape_error_of(typed: Typed<'_>, part: Part, tree: &Value) -> Message {
-    match word_in(part, tree) {
-        Some(word) => word_shape_error(typed, part, word, tree),
-        None => no_word_shape_error(typed, part, tree),
+    match (part, word_in(tree)) {
+        (Part::Statement | Part::Expression | Part::Condition, Some(word)) => word_shape_error(
+            typed, part, word, tree,
+        ),
+        _ => no_word_shape_error(typed, part, tree),
     }
 }
 
 // Why a tree that is no list with a word does not fit where this is required.
 fn no_word_shape_error(typed: Typed<'_>, part: Part, tree: &Value) -> Message {
-    let rule = match (part, items(tree)) {
-        (Part::Procedure, None) => Some(A_PROCEDURE),
-        _ => part.rule(),
+    let text = expected(typed, part.words(), tree)?;
+    let rule = match part.rule() {
+        Some(rule) if part != Part::Procedure || !tree.is_array() => rule,
+        _ => return Ok(Some(text)),
     };
-    let Some(rule) = rule else {
-        return unexpected(typed, part.words(), tree);
-    };
-    let (found, wanted) = (excerpt(typed, tree)?, part.words());
-    if let Some((Part::Statement, word, parts)) = row_named(tree) {
+    let word = tree.as_str().unwrap_or("");
+    if let Some((Part::Statement, parts)) = row(word) {
         let form = Part::form(typed.alloc, word, parts)?;
         return Ok(Some(format!(in typed.alloc;
-            "expected {wanted}, found {found}: a statement is a list in the list of statements, as [{form}]"
+            "{text}: a statement is a list in the list of statements, as [{form}]"
         )?));
     }
-    Ok(Some(format!(in typed.alloc; "expected {wanted}, found {found}: {rule}")?))
-}
-
-// The list that starts with the word that this text is, if there is one: what it is, its word, and what follows that.
-fn row_named(tree: &Value) -> Option<(Part, &str, &'static [Part])> {
-    let word = tree.as_str()?;
-    let (part, parts) = row(word)?;
-    Some((part, word, parts))
+    Ok(Some(format!(in typed.alloc; "{text}: {rule}")?))
 }
 
 // Why a list that starts with this word does not fit where this is required.
@@ -75,12 +64,4 @@ fn word_shape_error(typed: Typed<'_>, part: Part, word: &str, tree: &Value) -> M
     }
     let (word, wanted, starts) = (word_excerpt(typed, word)?, part.words(), part.starts());
     Ok(Some(format!(in typed.alloc; "{word} does not begin {wanted}: {starts}")?))
-}
-
-// The word that a list starts with, if this part is a list with a word.
-fn word_in(part: Part, tree: &Value) -> Option<&str> {
-    match part {
-        Part::Statement | Part::Expression | Part::Condition => word_of(items(tree)?),
-        _ => None,
-    }
 }

@@ -4,7 +4,7 @@ use sgt_model::NoMemory;
 use std::alloc::Global;
 
 /// What brackets or braces are around.
-#[derive(Clone, Copy)]
+#[derive(Clone, Copy, PartialEq)]
 pub(crate) enum Kind {
     List,
     Object,
@@ -48,125 +48,86 @@ pub(crate) struct Token {
     pub end: usize,
 }
 
-impl Kind {
-    /// Whether this is the other one.
-    pub(crate) fn is(self, other: Kind) -> bool {
-        matches!(
-            (self, other),
-            (Kind::List, Kind::List) | (Kind::Object, Kind::Object)
-        )
-    }
-}
-
 /// The token at this index of a text.
 pub(crate) fn token_at(alloc: Global, text: &str, at: usize) -> Result<Token, NoMemory> {
     let bytes = text.as_bytes();
-    let kind = match bytes.get(at) {
-        Some(b'[') => TokenKind::Opens(Kind::List),
-        Some(b'{') => TokenKind::Opens(Kind::Object),
-        Some(b']') => TokenKind::Closes(Kind::List),
-        Some(b'}') => TokenKind::Closes(Kind::Object),
-        Some(b',') => TokenKind::Comma,
-        Some(b':') => TokenKind::Colon,
-        Some(b'"') => return text_at(alloc, text, at),
-        Some(byte) if is_in_word(*byte) => return word_at(alloc, text, at),
-        _ => TokenKind::Other,
+    let rest = bytes.get(at..).unwrap_or(b"");
+    let mut token = match rest {
+        [b'"', ..] => text_at(bytes, at),
+        _ => sign_at(rest, at),
     };
-    Ok(Token {
-        kind,
-        at,
-        end: at.saturating_add(1),
-    })
+    if matches!(token.kind, TokenKind::Text | TokenKind::Plain) {
+        let part = text.get(at..token.end).unwrap_or("");
+        if !is_valid(part, &mut Scratch::new(alloc))? {
+            token.kind = match rest {
+                [b'"', ..] => TokenKind::HalfCharacter,
+                [b'0'..=b'9' | b'-' | b'+' | b'.', ..] => TokenKind::BadNumber,
+                _ => TokenKind::Word,
+            };
+        }
+    }
+    Ok(token)
 }
 
-// The text that begins with the quote at this index.
-fn text_at(alloc: Global, text: &str, begin: usize) -> Result<Token, NoMemory> {
-    let bytes = text.as_bytes();
-    let mut next = begin.saturating_add(1);
-    for at in next..bytes.len() {
-        if at < next {
-            continue;
-        }
-        let after = at.saturating_add(1);
-        let kind = match bytes[at] {
-            b'"' => return closed_text(alloc, text, begin, after),
-            b'\\' if !is_escape(bytes.get(after..).unwrap_or(&[])) => TokenKind::BadEscape,
-            b'\x00'..=b'\x1f' => TokenKind::Control,
-            b'\\' => {
-                next = at.saturating_add(2);
+// The bracket, the sign, the word or the number with which this text starts, at this index.
+fn sign_at(text: &[u8], at: usize) -> Token {
+    let (kind, length) = match text {
+        [b'[', ..] => (TokenKind::Opens(Kind::List), 1),
+        [b'{', ..] => (TokenKind::Opens(Kind::Object), 1),
+        [b']', ..] => (TokenKind::Closes(Kind::List), 1),
+        [b'}', ..] => (TokenKind::Closes(Kind::Object), 1),
+        [b',', ..] => (TokenKind::Comma, 1),
+        [b':', ..] => (TokenKind::Colon, 1),
+        _ => match text.iter().take_while(|byte| is_in_word(**byte)).count() {
+            0 => (TokenKind::Other, 1),
+            length => (TokenKind::Plain, length),
+        },
+    };
+    let end = at.saturating_add(length);
+    Token { kind, at, end }
+}
+
+// The text that begins with the quote at this index, or what is wrong in it.
+fn text_at(text: &[u8], begin: usize) -> Token {
+    let mut is_escaped = false;
+    for at in begin.saturating_add(1)..text.len() {
+        let end = at.saturating_add(1);
+        let (kind, at) = match text[at] {
+            _ if is_escaped => {
+                is_escaped = false;
                 continue;
             }
+            b'"' => (TokenKind::Text, begin),
+            b'\x00'..=b'\x1f' => (TokenKind::Control, at),
+            b'\\' if is_escape(text.get(end..).unwrap_or(b"")) => {
+                is_escaped = true;
+                continue;
+            }
+            b'\\' => (TokenKind::BadEscape, at),
             _ => continue,
         };
-        return Ok(Token {
-            kind,
-            at,
-            end: after,
-        });
+        return Token { kind, at, end };
     }
-    Ok(Token {
-        kind: TokenKind::Unclosed,
+    let (kind, end) = (TokenKind::Unclosed, text.len());
+    Token {
+        kind,
         at: begin,
-        end: bytes.len(),
-    })
-}
-
-// The text between these indices, with its quotes.
-fn closed_text(alloc: Global, text: &str, at: usize, end: usize) -> Result<Token, NoMemory> {
-    let kind = if is_json(alloc, text, at, end)? {
-        TokenKind::Text
-    } else {
-        TokenKind::HalfCharacter
-    };
-    Ok(Token { kind, at, end })
+        end,
+    }
 }
 
 // Whether a backslash may stand before these bytes of a text. At the end of the line the text is not closed.
 fn is_escape(after: &[u8]) -> bool {
     match after {
         [b'"' | b'\\' | b'/' | b'b' | b'f' | b'n' | b'r' | b't', ..] | [] => true,
-        [b'u', a, b, c, d, ..] => a.is_ascii_hexdigit()
-            && b.is_ascii_hexdigit()
-            && c.is_ascii_hexdigit()
-            && d.is_ascii_hexdigit(),
+        [b'u', a, b, c, d, ..] => [*a, *b, *c, *d]
+            .iter()
+            .all(|digit| digit.is_ascii_hexdigit()),
         _ => false,
     }
 }
 
-// The word or the number that begins at this index.
-fn word_at(alloc: Global, text: &str, at: usize) -> Result<Token, NoMemory> {
-    let rest = text.as_bytes().get(at..).unwrap_or(&[]);
-    let end = at.saturating_add(word_length(rest));
-    let kind = if is_json(alloc, text, at, end)? {
-        TokenKind::Plain
-    } else {
-        match rest.first() {
-            Some(b'0'..=b'9' | b'-' | b'+' | b'.') => TokenKind::BadNumber,
-            _ => TokenKind::Word,
-        }
-    };
-    Ok(Token { kind, at, end })
-}
-
-// How many bytes of a word or a number the text begins with.
-fn word_length(text: &[u8]) -> usize {
-    for at in 0..text.len() {
-        if !is_in_word(text[at]) {
-            return at;
-        }
-    }
-    text.len()
-}
-
 // Whether this byte may be in a word or a number.
 fn is_in_word(byte: u8) -> bool {
-    matches!(
-        byte,
-        b'a'..=b'z' | b'A'..=b'Z' | b'0'..=b'9' | b'_' | b'-' | b'+' | b'.'
-    )
-}
-
-// Whether the text between these indices is JSON.
-fn is_json(alloc: Global, text: &str, start: usize, end: usize) -> Result<bool, NoMemory> {
-    Ok(is_valid(text.get(start..end).unwrap_or(""), &mut Scratch::new(alloc))?)
+    byte.is_ascii_alphanumeric() || matches!(byte, b'_' | b'-' | b'+' | b'.')
 }

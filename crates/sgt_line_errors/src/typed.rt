@@ -1,6 +1,7 @@
 //! The text that was typed, from which messages show parts.
 
 use serde_json::Value;
+use sgt_format::read_tree;
 use sgt_model::NoMemory;
 use std::alloc::Global;
 
@@ -14,49 +15,27 @@ pub(crate) struct Typed<'a> {
 }
 
 impl<'a> Typed<'a> {
+    /// What stands between these indices of the text, or nothing if it is shorter.
+    pub(crate) fn part(self, begin: usize, end: usize) -> &'a [u8] {
+        self.text.get(begin..end).unwrap_or(b"")
+    }
+
     /// The first part of the text that spells this tree, if one does. Only lists, objects and numbers are found.
     pub(crate) fn spelling(self, tree: &Value) -> Result<Option<&'a str>, NoMemory> {
         let wanted = tree.to_string(self.alloc)?;
         let mut follower = Follower::new();
         for (at, byte) in self.text.iter().enumerate() {
-            if follower.follow(*byte) && may_start(tree, *byte) {
-                let rest = &self.text[at..];
-                let part = &rest[..end_of_value(rest).min(rest.len())];
-                if let Some(found) = self.spells(part, wanted.as_str())? {
-                    return Ok(Some(found));
+            let is_number = !matches!(byte, b'[' | b'{');
+            if follower.follow(*byte) && is_number == tree.is_number() {
+                let part = value_in(&self.text[at..], is_number);
+                if let Some(found) = read_tree(self.alloc, part)? {
+                    if found.to_string(self.alloc)?.as_str() == wanted.as_str() {
+                        return Ok(str::from_utf8(part).ok());
+                    }
                 }
             }
         }
         Ok(None)
-    }
-
-    // This part of the text, if it spells a tree with this compact text.
-    fn spells(self, part: &'a [u8], wanted: &str) -> Result<Option<&'a str>, NoMemory> {
-        let Ok(text) = str::from_utf8(part) else {
-            return Ok(None);
-        };
-        match Value::from_str(self.alloc, text) {
-            Ok(tree) => {
-                let is_found = tree.to_string(self.alloc)?.as_str() == wanted;
-                Ok(if is_found { Some(text) } else { None })
-            }
-            Err(error) => if error.is_memory() {
-                Err(NoMemory)
-            } else {
-                Ok(None)
-            },
-        }
-    }
-}
-
-// Whether the text of a list, an object or a number like this one starts with the byte.
-fn may_start(tree: &Value, byte: u8) -> bool {
-    if tree.is_object() {
-        byte == b'{'
-    } else if tree.is_array() {
-        byte == b'['
-    } else {
-        byte != b'{' && byte != b'['
     }
 }
 
@@ -82,9 +61,9 @@ impl Follower {
         }
     }
 
-    /// How many lists and objects are open.
-    pub(crate) fn depth(&self) -> u64 {
-        self.depth
+    /// Whether the last byte is in the outermost list or object alone, and in no string.
+    pub(crate) fn is_at_top(&self) -> bool {
+        self.depth == 1 && !self.is_in_string
     }
 
     /// Takes the next byte, and returns whether a list, an object or a number starts with it.
@@ -107,18 +86,17 @@ impl Follower {
     }
 }
 
-// Where the list, object or number ends with which the text starts.
-fn end_of_value(text: &[u8]) -> usize {
-    let is_number = !matches!(text.first(), Some(b'[' | b'{'));
+// The number, or else the list or the object, with which the text starts.
+fn value_in(text: &[u8], is_number: bool) -> &[u8] {
     let mut follower = Follower::new();
     for (index, byte) in text.iter().enumerate() {
         follower.follow(*byte);
         if is_number && !follower.is_in_number {
-            return index;
+            return &text[..index];
         }
         if !is_number && follower.depth == 0 {
-            return index.saturating_add(1);
+            return &text[..=index];
         }
     }
-    text.len()
+    text
 }
