@@ -1,6 +1,6 @@
 //! What a text on a history mentions: transactions and operations.
 ghost use Rattle.std.specs.Prelude.{◌≡◌, ◌++◌, OnOk};
-ghost use Rattle.sgt_check.specs.ReportText.{placed, transaction_at, transaction_of};
+ghost use Rattle.sgt_check.specs.ReportText.{placed, transaction_of};
 ghost use Rattle.sgt_check.specs.Mentions.{mentioned_text};
 
 use sgt_format::{Spelled, append_number, append_numbered};
@@ -45,20 +45,6 @@ fn append_placed(text: &mut Vec<u8>, history: &History, place: usize) -> Result<
     Ok(())
 }
 
-/// Appends the transaction of the operation at a position.
-fn append_transaction_at(
-    text: &mut Vec<u8>,
-    history: &History,
-    place: usize,
-) -> Result<(), NoMemory>
-    ensures { OnOk result (text.new.items ≡ text.old.items ++ transaction_at history.now place) }
-{
-    if let Some(operation) = history.operations.get(place) {
-        append_number(text, operation.transaction)?;
-    }
-    Ok(())
-}
-
 /// Appends the transaction of the operation at a position, if there is a position.
 fn append_transaction_of(
     text: &mut Vec<u8>,
@@ -67,8 +53,11 @@ fn append_transaction_of(
 ) -> Result<(), NoMemory>
     ensures { OnOk result (text.new.items ≡ text.old.items ++ transaction_of history.now place) }
 {
-    match place {
-        Some(place) => append_transaction_at(text, history, place),
-        None => Ok(()),
+    let Some(place) = place else {
+        return Ok(());
+    };
+    if let Some(operation) = history.operations.get(place) {
+        append_number(text, operation.transaction)?;
     }
+    Ok(())
 }

@@ -1,5 +1,5 @@
 //! The report of a check.
-ghost use Rattle.std.specs.Prelude.{◌↔◌, ◌≡◌, ◌<◌, ◌+◌, ◌-◌, ◌^◌, ◌==◌, ◌||◌, not, if◌then◌else◌, ℕ, Some, is_some, IfOk, OnOk, IfSome, IsNone, IsTrue};
+ghost use Rattle.std.specs.Prelude.{◌↔◌, ◌≡◌, ◌<◌, ◌+◌, ◌-◌, ◌^◌, ◌==◌, ◌||◌, not, if◌then◌else◌, ℕ, is_some, IfOk, OnOk, IfSome, IsNone, IsTrue};
 ghost use Rattle.sgt_classes.specs.Tables.{entry_of};
 ghost use Rattle.sgt_classes.specs.Histories.{Does, IsWellFormed};
 ghost use Rattle.sgt_classes.specs.Classes.{BreaksRecoverability, BreaksAvoidance, BreaksStrictness, BreaksRigorousness, IsFirstViolation};
@@ -177,17 +177,7 @@ fn dirty_write(
 fn abort_of(history: &[Operation], place: Option<usize>) -> Option<usize>
     ensures { IsAbortOf history.now place result }
 {
-    match place {
-        Some(place) => abort_after(history, place),
-        None => None,
-    }
-}
-
-/// The position of the abort of the transaction that acts at this position, if it aborts.
-fn abort_after(history: &[Operation], place: usize) -> Option<usize>
-    ensures { IsAbortOf history.now (Some place) result }
-{
-    let transaction = history.get(place)?.transaction;
+    let transaction = history.get(place?)?.transaction;
     first_abort(history, transaction)
 }
 

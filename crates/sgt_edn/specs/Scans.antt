@@ -29,15 +29,14 @@ separator s = if s.depth == 0 || s.is_first then [] else (if s.depth == 1 && s.i
 -- after a byte that opens a collection: outside only a brace, 123, opens one
 abbrev pub opened : Scan → ℕ → Scan
 opened s x =
-    if s.depth == 0 then
-    (if x == 123 then record { mode = Between; depth = 1; is_value = false; is_first = true } else in_mode Between s)
-    else record { mode = Between; depth = min (s.depth + 1) (2 ^ 64 - 1); is_value = turned s; is_first = true }
+    if s.depth == 0 && not (x == 123) then in_mode Between s
+    else record { mode = Between; depth = min (s.depth + 1) (2 ^ 64 - 1); is_value = not (s.depth == 0) && turned s; is_first = true }
 
 -- the text of such a byte; a map is two objects, so that a brace which closes a vector closes more than is open
 abbrev pub open_text : Scan → ℕ → List ℕ
 open_text s x =
-    if s.depth == 0 then (if x == 123 then codes "{" else codes " ")
-    else separator s ++ (if x == 123 then codes "{\"\":{\"\":[" else codes "[")
+    separator s ++ (if s.depth == 0 then (if x == 123 then codes "{" else codes " ")
+    else (if x == 123 then codes "{\"\":{\"\":[" else codes "["))
 
 -- after a byte that closes a collection
 abbrev pub closed : Scan → Scan

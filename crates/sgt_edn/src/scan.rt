@@ -78,9 +78,9 @@ impl Scan {
     {
         Scan {
             mode,
-            depth: self.depth,
             is_value: self.turned(),
             is_first: false,
+            ..self
         }
     }
 
@@ -88,23 +88,15 @@ impl Scan {
     fn opened(self, byte: u8) -> Scan
         ensures { result ≡ opened self byte }
     {
-        if self.depth > 0 {
-            return Scan {
-                mode: Mode::Between,
-                depth: self.depth.saturating_add(1),
-                is_value: self.turned(),
-                is_first: true,
-            };
+        if self.depth == 0 && byte != b'{' {
+            return self.in_mode(Mode::Between);
         }
-        if byte == b'{' {
-            return Scan {
-                mode: Mode::Between,
-                depth: 1,
-                is_value: false,
-                is_first: true,
-            };
+        Scan {
+            mode: Mode::Between,
+            depth: self.depth.saturating_add(1),
+            is_value: self.depth > 0 && self.turned(),
+            is_first: true,
         }
-        self.in_mode(Mode::Between)
     }
 
     /// After a byte that closes a collection.
@@ -157,19 +149,6 @@ impl Scan {
         }
     }
 
-    /// After a byte of a string.
-    fn after_text(self, byte: u8) -> Scan
-        ensures { result ≡ after_in mode.Text self byte }
-    {
-        if byte == b'"' {
-            self.in_mode(Mode::Between)
-        } else if byte == b'\\' {
-            self.in_mode(Mode::Escape)
-        } else {
-            self
-        }
-    }
-
     /// After one more byte.
     pub(crate) fn after(self, byte: u8) -> Scan
         ensures { result ≡ after_in self.mode self byte }
@@ -178,12 +157,13 @@ impl Scan {
             Mode::Between => self.after_free(byte),
             Mode::Token if is_end(byte) => self.counted(Mode::Between).after_free(byte),
             Mode::Literal => self.in_mode(Mode::Token),
-            Mode::Text => self.after_text(byte),
+            Mode::Text if byte == b'"' => self.in_mode(Mode::Between),
+            Mode::Text if byte == b'\\' => self.in_mode(Mode::Escape),
             Mode::Escape => self.in_mode(Mode::Text),
             Mode::Comment if byte == b'\n' => self.in_mode(Mode::Between),
             Mode::Hash => self.after_hash(byte),
             Mode::Tag if is_end(byte) => self.after_free(byte),
-            Mode::Token | Mode::Comment | Mode::Tag => self,
+            Mode::Token | Mode::Text | Mode::Comment | Mode::Tag => self,
         }
     }
 }
@@ -266,18 +246,14 @@ fn append_separator(json: &mut Vec<u8>, scan: Scan) -> Result<(), NoMemory>
 fn append_open(json: &mut Vec<u8>, scan: Scan, byte: u8) -> Result<(), NoMemory>
     ensures { OnOk result (json.new.items ≡ json.old.items ++ open_text scan byte) }
 {
-    if scan.depth > 0 {
-        append_separator(json, scan)?;
-        if byte == b'{' {
-            json.extend_from_slice(b"{\"\":{\"\":[")?;
-        } else {
-            json.extend_from_slice(b"[")?;
-        }
-    } else if byte == b'{' {
-        json.extend_from_slice(b"{")?;
-    } else {
-        json.extend_from_slice(b" ")?;
-    }
+    append_separator(json, scan)?;
+    let text: &[u8] = match (scan.depth, byte) {
+        (0, b'{') => b"{",
+        (0, _) => b" ",
+        (_, b'{') => b"{\"\":{\"\":[",
+        (_, _) => b"[",
+    };
+    json.extend_from_slice(text)?;
     Ok(())
 }
 

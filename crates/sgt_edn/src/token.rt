@@ -64,24 +64,14 @@ fn starts_with(token: &[u8], byte: u8) -> bool
 fn is_nil(token: &[u8]) -> bool
     ensures { result ≡ is_nil token.now }
 {
-    token.len() == 3 && token[0] == b'n' && token[1] == b'i' && token[2] == b'l'
+    matches!(token, b"nil")
 }
 
 /// Whether the token is `true` or `false`.
 fn is_truth(token: &[u8]) -> bool
     ensures { result ≡ is_truth token.now }
 {
-    (token.len() == 4
-        && token[0] == b't'
-        && token[1] == b'r'
-        && token[2] == b'u'
-        && token[3] == b'e')
-        || (token.len() == 5
-            && token[0] == b'f'
-            && token[1] == b'a'
-            && token[2] == b'l'
-            && token[3] == b's'
-            && token[4] == b'e')
+    matches!(token, b"true" | b"false")
 }
 
 /// Whether the token is a whole number.

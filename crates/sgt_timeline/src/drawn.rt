@@ -29,7 +29,7 @@ pub(crate) struct Pairs {
 }
 
 impl Pairs {
-    /// What stands out, of a cycle its first edges.
+    /// What stands out, of a cycle its first edges. A violation that two classes have is added once.
     pub fn of(alloc: Global, highlight: Highlight<'_>) -> Result<Self, NoMemory> {
         let mut pairs = Pairs {
             places: Vec::new(alloc),
@@ -40,7 +40,9 @@ impl Pairs {
             Highlight::Violation(violation) => pairs.add_violation(&violation)?,
             Highlight::All(edges, violations) => {
                 pairs.add_edges(edges)?;
-                pairs.add_violations(violations)?;
+                for violation in violations {
+                    pairs.add_violation(violation)?;
+                }
             }
         }
         Ok(pairs)
@@ -50,14 +52,6 @@ impl Pairs {
     fn add_edges(&mut self, edges: &[Edge]) -> Result<(), NoMemory> {
         for edge in edges {
             self.add(LineKind::Cycle, edge.earlier, edge.later)?;
-        }
-        Ok(())
-    }
-
-    /// Adds the violations. One that two classes have is added once.
-    fn add_violations(&mut self, violations: &[Violation]) -> Result<(), NoMemory> {
-        for violation in violations {
-            self.add_violation(violation)?;
         }
         Ok(())
     }
@@ -92,12 +86,8 @@ impl Pairs {
 
     /// As part of which line the operation at the place stands out, if it does.
     pub fn ends_at(&self, place: usize) -> Option<LineKind> {
-        for pair in &self.places {
-            if pair.earlier == place || pair.later == place {
-                return Some(pair.kind);
-            }
-        }
-        None
+        let ends = |pair: &&Pair| pair.earlier == place || pair.later == place;
+        Some(self.places.iter().find(ends)?.kind)
     }
 }
 
@@ -142,10 +132,10 @@ impl Drawn {
         if pairs.places.is_empty() {
             return Drawn::first(alloc, history.len(), whole);
         }
-        let chosen = Chosen::of(alloc, history, pairs)?;
+        let (extent, chosen) = chosen_of(alloc, history, pairs)?;
         Ok(Drawn {
-            extent: chosen.extent,
-            places: places_in(alloc, history.len(), &chosen.places, whole)?,
+            extent,
+            places: places_in(alloc, history.len(), &chosen, whole)?,
         })
     }
 
@@ -197,29 +187,19 @@ fn places_in(
     Ok(places)
 }
 
-/// The operations of a long history that are to be drawn.
-#[derive(Drop)]
-pub(crate) struct Chosen {
-    pub extent: Extent,
-    pub places: BTreeSet<usize>,
-}
-
-impl Chosen {
-    /// Those of the transactions that stand out, or those that stand out where these are too many.
-    fn of(alloc: Global, history: &[Operation], pairs: &Pairs) -> Result<Self, NoMemory> {
-        let transactions = transactions_of(alloc, history, pairs)?;
-        let places = places_of(alloc, history, &transactions)?;
-        if places.len() <= MOST {
-            return Ok(Chosen {
-                extent: Extent::Transactions,
-                places,
-            });
-        }
-        Ok(Chosen {
-            extent: Extent::Pairs,
-            places: pair_places(alloc, pairs)?,
-        })
+/// The operations of a long history that are to be drawn: those of the transactions that stand out, or those that stand
+/// out where these are too many.
+fn chosen_of(
+    alloc: Global,
+    history: &[Operation],
+    pairs: &Pairs,
+) -> Result<(Extent, BTreeSet<usize>), NoMemory> {
+    let transactions = transactions_of(alloc, history, pairs)?;
+    let places = places_of(alloc, history, &transactions)?;
+    if places.len() <= MOST {
+        return Ok((Extent::Transactions, places));
     }
+    Ok((Extent::Pairs, pair_places(alloc, pairs)?))
 }
 
 /// The transactions that stand out.
@@ -230,11 +210,10 @@ fn transactions_of(
 ) -> Result<BTreeSet<u32>, NoMemory> {
     let mut transactions = BTreeSet::new(alloc);
     for pair in &pairs.places {
-        if let Some(operation) = history.get(pair.earlier) {
-            transactions.insert(operation.transaction)?;
-        }
-        if let Some(operation) = history.get(pair.later) {
-            transactions.insert(operation.transaction)?;
+        for place in [pair.earlier, pair.later] {
+            if let Some(operation) = history.get(place) {
+                transactions.insert(operation.transaction)?;
+            }
         }
     }
     Ok(transactions)

@@ -173,25 +173,21 @@ fn row_of(rows: &[Row], transaction: u32) -> Option<usize>
 
 /// The width that the numbers of the transactions take on the left.
 fn margin(history: &[Operation], places: &[usize]) -> usize {
-    for place in places {
-        if let Some(operation) = history.get(*place) {
-            if operation.transaction > 999 {
-                return 116;
-            }
-        }
+    let mut operations = places.iter().filter_map(|place| history.get(*place));
+    if operations.any(|operation| operation.transaction > 999) {
+        116
+    } else {
+        60
     }
-    60
 }
 
 /// The width of the box of the operation at the place.
 fn width_of(history: &History, place: usize) -> usize {
-    match history.operations.get(place) {
-        Some(operation) => letters(history, operation.action)
-            .saturating_mul(LETTER)
-            .saturating_add(12)
-            .max(30),
-        None => 30,
-    }
+    let letters = match history.operations.get(place) {
+        Some(operation) => letters(history, operation.action),
+        None => 0,
+    };
+    letters.saturating_mul(LETTER).saturating_add(12).max(30)
 }
 
 /// How many letters the operation has in its box.

@@ -22,7 +22,8 @@ pub(crate) fn legend_parts(
         Part::Cycle,
         Part::Violation,
     ] {
-        if has_mark(history, marks, part) || has_line(lines, part) {
+        let has_line = lines.iter().any(|line| part_of_kind(line.kind) == part);
+        if has_line || has_mark(history, marks, part) {
             parts.push(part)?;
         }
     }
@@ -35,11 +36,6 @@ fn has_mark(history: &[Operation], marks: &[Mark], part: Part) -> bool {
         Some(operation) => part_of_action(operation.action) == part,
         None => false,
     })
-}
-
-/// Whether one of the lines is explained by the part.
-fn has_line(lines: &[Line], part: Part) -> bool {
-    lines.iter().any(|line| part_of_kind(line.kind) == part)
 }
 
 /// The part that explains the marks of an action.

@@ -65,35 +65,21 @@ fn read_line(
     mark: &Mark,
     lane: usize,
 ) -> Result<Option<Line>, NoMemory> {
-    let Some(source) = source_of(alloc, history, mark.place)? else {
+    let Some(read) = history.get(mark.place) else {
         return Ok(None);
     };
-    let Some(from) = mark_at(marks, source) else {
+    let Some(source) = read_source(alloc, history, mark.place)? else {
         return Ok(None);
     };
-    let kind = match history.get(source) {
-        Some(write) if aborted.contains(&write.transaction) => LineKind::ReadsFromAborted,
-        _ => LineKind::ReadsFrom,
-    };
-    Ok(Some(route(kind, &from, mark, lane)))
-}
-
-/// The write of another transaction that the operation at the place reads from.
-fn source_of(
-    alloc: Global,
-    history: &[Operation],
-    place: usize,
-) -> Result<Option<usize>, NoMemory> {
-    if place >= history.len() {
-        return Ok(None);
-    }
-    let Some(source) = read_source(alloc, history, place)? else {
+    let (Some(write), Some(from)) = (history.get(source), mark_at(marks, source)) else {
         return Ok(None);
     };
-    match history.get(source) {
-        Some(write) if write.transaction != history[place].transaction => Ok(Some(source)),
-        _ => Ok(None),
-    }
+    let kind = if aborted.contains(&write.transaction) {
+        LineKind::ReadsFromAborted
+    } else {
+        LineKind::ReadsFrom
+    };
+    Ok((write.transaction != read.transaction).then_some(route(kind, &from, mark, lane)))
 }
 
 /// The transactions that abort.
@@ -107,24 +93,17 @@ fn aborted_of(alloc: Global, history: &[Operation]) -> Result<BTreeSet<u32>, NoM
     Ok(aborted)
 }
 
-/// Adds the lines of what stands out.
+/// Adds the lines of what stands out, between operations that have a mark. One that stands out alone has none.
 fn add_pairs(lines: &mut Vec<Line>, marks: &[Mark], pairs: &Pairs) -> Result<(), NoMemory> {
     for pair in &pairs.places {
-        if let Some(line) = line_of(marks, pair.kind, pair.earlier, pair.later) {
-            lines.push(line)?;
+        let ends = (mark_at(marks, pair.earlier), mark_at(marks, pair.later));
+        if let (Some(from), Some(to)) = ends {
+            if pair.earlier != pair.later {
+                lines.push(route(pair.kind, &from, &to, NEAREST))?;
+            }
         }
     }
     Ok(())
-}
-
-/// The line between two operations, if both have a mark. An operation that stands out alone has none.
-fn line_of(marks: &[Mark], kind: LineKind, earlier: usize, later: usize) -> Option<Line> {
-    if earlier == later {
-        return None;
-    }
-    let from = mark_at(marks, earlier)?;
-    let to = mark_at(marks, later)?;
-    Some(route(kind, &from, &to, NEAREST))
 }
 
 /// The mark of the operation at the place.
