@@ -40,27 +40,11 @@ nothing = record {
 
 -- one more entry
 abbrev pub counted : Past → Past
-counted p = record {
-  transactions = p.transactions;
-  spans = p.spans;
-  events = p.events;
-  active = p.active;
-  invoked = p.invoked;
-  entries = p.entries + 1;
-  skipped = p.skipped;
-}
+counted p = record p { entries = p.entries + 1 }
 
 -- the entry is skipped; at most 2^64 - 1 are counted
 abbrev pub with_skipped : Past → Past
-with_skipped p = record {
-  transactions = p.transactions;
-  spans = p.spans;
-  events = p.events;
-  active = p.active;
-  invoked = p.invoked;
-  entries = p.entries;
-  skipped = min (p.skipped + 1) (2 ^ 64 - 1);
-}
+with_skipped p = record p { skipped = min (p.skipped + 1) (2 ^ 64 - 1) }
 
 -- the list with the item at an index changed, if there is one
 abbrev pub changed : {A : Type 0} → (A → A) → List A → ℕ → List A
@@ -70,14 +54,10 @@ changed f (x ∷ xs) (suc i) = x ∷ changed f xs i
 
 -- a transaction begins at this entry, with this status and these operations; its end is not known as yet
 abbrev pub begun : Status → Vec Operation → Past → Past
-begun status operations p = record {
+begun status operations p = record p {
   transactions = p.transactions ++ record { status = status; operations = operations } ∷ [];
   spans = p.spans ++ record { began = p.entries; ended = None } ∷ [];
   events = p.events ++ event.Began (length p.transactions) ∷ [];
-  active = p.active;
-  invoked = p.invoked;
-  entries = p.entries;
-  skipped = p.skipped;
 }
 
 -- the span, with its end at this entry
@@ -86,15 +66,7 @@ ends_at entry s = record { began = s.began; ended = Some entry }
 
 -- transaction t ends at this entry
 abbrev pub ended_here : ℕ → Past → Past
-ended_here t p = record {
-  transactions = p.transactions;
-  spans = changed (ends_at p.entries) p.spans t;
-  events = p.events ++ event.Ended t ∷ [];
-  active = p.active;
-  invoked = p.invoked;
-  entries = p.entries;
-  skipped = p.skipped;
-}
+ended_here t p = record p { spans = changed (ends_at p.entries) p.spans t; events = p.events ++ event.Ended t ∷ [] }
 
 -- transaction t ends at this entry, unless its end is unknown
 abbrev pub ended : Status → ℕ → Past → Past
@@ -108,27 +80,11 @@ is_same process q = is_eq (nat_cmp process q)
 
 -- the process has invoked a transaction
 abbrev pub with_active : ℕ → Invocation → Past → Past
-with_active process i p = record {
-  transactions = p.transactions;
-  spans = p.spans;
-  events = p.events;
-  active = λ q. cond (is_same process q) (Some i) (p.active q);
-  invoked = true;
-  entries = p.entries;
-  skipped = p.skipped;
-}
+with_active process i p = record p { active = λ q. cond (is_same process q) (Some i) (p.active q); invoked = true }
 
 -- the process has no invocation
 abbrev pub without_active : ℕ → Past → Past
-without_active process p = record {
-  transactions = p.transactions;
-  spans = p.spans;
-  events = p.events;
-  active = λ q. cond (is_same process q) None (p.active q);
-  invoked = p.invoked;
-  entries = p.entries;
-  skipped = p.skipped;
-}
+without_active process p = record p { active = λ q. cond (is_same process q) None (p.active q) }
 
 -- A transaction after its answer. If it committed, its operations are those of its answer, and else those that were invoked.
 abbrev pub answered : Status → Entry → Transaction → Transaction
@@ -138,15 +94,7 @@ answered Unknown e t = record { status = Unknown; operations = t.operations }
 
 -- transaction t has its answer
 abbrev pub with_answer : Status → Entry → ℕ → Past → Past
-with_answer status e t p = record {
-  transactions = changed (answered status e) p.transactions t;
-  spans = p.spans;
-  events = p.events;
-  active = p.active;
-  invoked = p.invoked;
-  entries = p.entries;
-  skipped = p.skipped;
-}
+with_answer status e t p = record p { transactions = changed (answered status e) p.transactions t }
 
 -- A process invokes a transaction. Its end is unknown, unless a later entry of the process reports it.
 abbrev pub invoked : Entry → Past → Past

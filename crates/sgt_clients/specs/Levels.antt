@@ -24,11 +24,8 @@ use Rattle.sgt_clients.specs.Findings.{HasOrder, IsFound, is_order}
 
 -- whether the level keeps real time
 abbrev pub is_strict : Level → Bool
-is_strict ReadUncommitted = false
-is_strict ReadCommitted = false
-is_strict SnapshotIsolation = false
-is_strict Serializable = false
 is_strict StrictSerializable = true
+is_strict level = false
 
 -- whether a serial order has to keep real time
 abbrev pub keeps_time : Question → Bool
@@ -90,24 +87,17 @@ answer_of f StrictSerializable = serial_answer f.finding
 -- whether the answer is yes
 abbrev pub is_yes : Answer → Bool
 is_yes Yes = true
-is_yes No = false
-is_yes Undecided = false
-
--- the first of the levels, from the strongest on, that holds
-abbrev pub first_level : Bool → Bool → Bool → Bool → Bool → Option Level
-first_level strict serial snapshot committed uncommitted =
-    if strict then Some StrictSerializable
-    else if serial then Some Serializable
-    else if snapshot then Some SnapshotIsolation
-    else if committed then Some ReadCommitted
-    else if uncommitted then Some ReadUncommitted
-    else None
+is_yes answer = false
 
 -- the strongest level that holds, if any does; the strict one counts only if real time is kept
 abbrev pub strongest_of : Bool → LevelFindings → Option Level
 strongest_of strict f =
-    first_level (strict && is_yes (answer_of f StrictSerializable)) (is_yes (answer_of f Serializable))
-    (is_yes (answer_of f SnapshotIsolation)) (is_yes (answer_of f ReadCommitted)) (is_yes (answer_of f ReadUncommitted))
+    if strict && is_yes (answer_of f StrictSerializable) then Some StrictSerializable
+    else if is_yes (answer_of f Serializable) then Some Serializable
+    else if is_yes (answer_of f SnapshotIsolation) then Some SnapshotIsolation
+    else if is_yes (answer_of f ReadCommitted) then Some ReadCommitted
+    else if is_yes (answer_of f ReadUncommitted) then Some ReadUncommitted
+    else None
 
 -- each finding is right, and one that is left out follows from an order
 pub record AreFound (strict : Bool) (c : Clients) (f : LevelFindings) : Type 0 where

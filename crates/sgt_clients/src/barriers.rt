@@ -4,7 +4,8 @@
 //! ended and after the barrier before it, and before those that begin until the next one.
 
 use crate::clients::{Clients, Event};
-use sgt_appends::{Before, Status};
+use crate::strict::is_committed;
+use sgt_appends::Before;
 use sgt_model::NoMemory;
 use std::alloc::Global;
 use std::collections::BTreeMap;
@@ -35,7 +36,7 @@ pub(crate) fn pairs_in_time(alloc: Global, clients: &Clients) -> Result<Pairs, N
     let mut ended = Vec::new(alloc);
     for event in &clients.events {
         match *event {
-            Event::Ended(number) => if has_committed(clients, number) {
+            Event::Ended(number) => if is_committed(clients.transactions.as_slice(), number) {
                 ended.push(number)?;
             },
             Event::Began(number) => {
@@ -85,7 +86,7 @@ pub(crate) fn pairs_of_processes(alloc: Global, clients: &Clients) -> Result<Pai
     let mut last = BTreeMap::new(alloc);
     for event in &clients.events {
         match *event {
-            Event::Ended(number) => if has_committed(clients, number) {
+            Event::Ended(number) => if is_committed(clients.transactions.as_slice(), number) {
                 last.insert(process_of(clients, number), number)?;
             },
             Event::Began(number) => {
@@ -103,16 +104,5 @@ pub(crate) fn pairs_of_processes(alloc: Global, clients: &Clients) -> Result<Pai
 
 /// The process of the transaction.
 pub(crate) fn process_of(clients: &Clients, number: usize) -> u32 {
-    match clients.processes.get(number) {
-        Some(process) => *process,
-        None => 0,
-    }
-}
-
-/// Whether the transaction committed.
-pub(crate) fn has_committed(clients: &Clients, number: usize) -> bool {
-    match clients.transactions.get(number) {
-        Some(transaction) => transaction.status == Status::Committed,
-        None => false,
-    }
+    clients.processes.get(number).copied().unwrap_or(0)
 }

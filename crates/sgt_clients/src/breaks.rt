@@ -1,43 +1,29 @@
 //! Where the brackets of an input do not match: in JSON, or in EDN as it was typed.
+use crate::hint::Hint;
 use sgt_model::NoMemory;
 use std::alloc::Global;
 
-/// A position in an input.
-#[derive(Clone, Copy)]
-pub(crate) struct Spot {
-    /// The index of its byte.
-    pub at: usize,
-    /// Its line, from 1.
+/// Where an input stops being JSON or EDN, and a hint. Lines, columns and entries are counted from 1, and columns in bytes.
+#[derive(Drop)]
+pub(crate) struct NoJson {
     pub line: u64,
-    /// Its column, in bytes from 1.
     pub column: usize,
+    pub entry: usize,
+    pub hint: Option<Hint>,
+}
+
+/// A position in an input: its line and its column.
+#[derive(Clone, Copy)]
+struct Spot {
+    line: u64,
+    column: usize,
 }
 
 /// A bracket, or the quote of a text.
 #[derive(Clone, Copy)]
-pub(crate) struct Bracket {
-    pub byte: u8,
-    pub spot: Spot,
-}
-
-/// What is wrong with the brackets.
-#[derive(Clone, Copy)]
-pub(crate) enum Break {
-    /// A bracket closes another one than the newest that is open, or nothing is open.
-    Mismatch(Bracket, Option<Bracket>),
-    /// A line ends inside an entry, and another entry begins in this line.
-    Line(Spot, u64),
-    /// The input ends inside the entry that begins in this line.
-    Input(Spot, u64),
-    /// A line ends inside the text that begins in this column.
-    Text(Spot, usize),
-}
-
-/// The first break of an input, and the number of its entry from 1.
-#[derive(Clone, Copy)]
-pub(crate) struct FoundBreak {
-    pub found: Break,
-    pub entry: usize,
+struct Bracket {
+    byte: u8,
+    spot: Spot,
 }
 
 /// The first break of the input, if it is not after this index.
@@ -46,15 +32,24 @@ pub(crate) fn first_break(
     input: &[u8],
     is_edn: bool,
     last: usize,
-) -> Result<Option<FoundBreak>, NoMemory> {
-    let mut scan = Scan::new(alloc, is_edn);
-    for at in 0..input.len() {
+) -> Result<Option<NoJson>, NoMemory> {
+    let mut scan = Scan {
+        is_edn,
+        open: Vec::new(alloc),
+        part: Part::Plain,
+        line: 1,
+        start: 0,
+        is_blank: true,
+        end: Spot { line: 1, column: 1 },
+        entries: 0,
+    };
+    for (at, byte) in input.iter().enumerate() {
         if at > last {
             return Ok(None);
         }
-        if let Some(found) = scan.take(at, input[at])? {
-            let entry = scan.entry_of(found);
-            return Ok(Some(FoundBreak { found, entry }));
+        let found = scan.take(at, *byte)?;
+        if found.is_some() {
+            return Ok(found);
         }
     }
     if last < input.len() {
@@ -96,28 +91,9 @@ struct Scan {
 }
 
 impl Scan {
-    /// Before the first byte.
-    fn new(alloc: Global, is_edn: bool) -> Self {
-        Scan {
-            is_edn,
-            open: Vec::new(alloc),
-            part: Part::Plain,
-            line: 1,
-            start: 0,
-            is_blank: true,
-            end: Spot {
-                at: 0,
-                line: 1,
-                column: 1,
-            },
-            entries: 0,
-        }
-    }
-
     /// Takes the next byte, and returns what is wrong with it.
-    fn take(&mut self, at: usize, byte: u8) -> Result<Option<Break>, NoMemory> {
+    fn take(&mut self, at: usize, byte: u8) -> Result<Option<NoJson>, NoMemory> {
         let spot = Spot {
-            at,
             line: self.line,
             column: at.saturating_sub(self.start).saturating_add(1),
         };
@@ -129,7 +105,6 @@ impl Scan {
         } else if !is_space(byte) {
             self.is_blank = false;
             self.end = Spot {
-                at: at.saturating_add(1),
                 line: spot.line,
                 column: spot.column.saturating_add(1),
             };
@@ -138,7 +113,7 @@ impl Scan {
     }
 
     /// Takes the next byte as what it is part of.
-    fn take_part(&mut self, spot: Spot, byte: u8) -> Result<Option<Break>, NoMemory> {
+    fn take_part(&mut self, spot: Spot, byte: u8) -> Result<Option<NoJson>, NoMemory> {
         match self.part {
             Part::Plain => return self.take_plain(spot, byte),
             Part::Text => return Ok(self.take_text(spot, byte)),
@@ -152,7 +127,7 @@ impl Scan {
     }
 
     /// Takes the next byte, which is in no text.
-    fn take_plain(&mut self, spot: Spot, byte: u8) -> Result<Option<Break>, NoMemory> {
+    fn take_plain(&mut self, spot: Spot, byte: u8) -> Result<Option<NoJson>, NoMemory> {
         match byte {
             b'"' => {
                 self.part = Part::Text;
@@ -172,10 +147,10 @@ impl Scan {
 
     /// Takes an opening brace. It is wrong if it begins another entry inside of one: it is the first byte of its line, and
     /// not further to the right than the brace of the entry.
-    fn take_brace(&mut self, spot: Spot) -> Result<Option<Break>, NoMemory> {
+    fn take_brace(&mut self, spot: Spot) -> Result<Option<NoJson>, NoMemory> {
         match self.open.first() {
             Some(entry) => if self.is_blank && spot.column <= entry.spot.column {
-                return Ok(Some(Break::Line(self.end, spot.line)));
+                return Ok(self.found(self.end, Hint::Line(self.entries, spot.line)));
             },
             None => self.entries = self.entries.saturating_add(1),
         }
@@ -184,7 +159,7 @@ impl Scan {
     }
 
     /// Takes the next byte of a text. In JSON a line may not end there.
-    fn take_text(&mut self, spot: Spot, byte: u8) -> Option<Break> {
+    fn take_text(&mut self, spot: Spot, byte: u8) -> Option<NoJson> {
         match byte {
             b'"' => {
                 self.part = Part::Plain;
@@ -192,39 +167,50 @@ impl Scan {
             }
             b'\\' => self.part = Part::Escape,
             b'\n' if !self.is_edn => if let Some(quote) = self.open.last() {
-                return Some(Break::Text(spot, quote.spot.column));
+                return self.found(spot, Hint::Text(quote.spot.column));
             },
             _ => (),
         }
         None
     }
 
-    /// Takes a closing bracket.
-    fn close(&mut self, spot: Spot, byte: u8) -> Option<Break> {
+    /// Takes a closing bracket. One that closes nothing is an entry by itself.
+    fn close(&mut self, spot: Spot, byte: u8) -> Option<NoJson> {
         match self.open.last().copied() {
             Some(open) if closer(open.byte) == byte => {
                 self.open.pop();
                 None
             }
+            Some(open) => self.found(
+                spot,
+                Hint::Mismatch(
+                    bracket_name(byte),
+                    bracket_name(open.byte),
+                    open.spot.line,
+                    open.spot.column,
+                ),
+            ),
             None if byte != b'}' => None,
-            open => Some(Break::Mismatch(Bracket { byte, spot }, open)),
-        }
-    }
-
-    /// The number of the entry that has this break. A bracket that closes nothing is one by itself.
-    fn entry_of(&self, found: Break) -> usize {
-        match found {
-            Break::Mismatch(_, None) => self.entries.saturating_add(1),
-            _ => self.entries,
+            None => {
+                self.entries = self.entries.saturating_add(1);
+                self.found(spot, Hint::Stray(bracket_name(byte)))
+            }
         }
     }
 
     /// What is wrong at the end of the input.
-    fn end(&self) -> Option<FoundBreak> {
+    fn end(&self) -> Option<NoJson> {
         let entry = self.open.first()?;
-        Some(FoundBreak {
-            found: Break::Input(self.end, entry.spot.line),
+        self.found(self.end, Hint::Input(self.entries, entry.spot.line))
+    }
+
+    /// A break of the last entry.
+    fn found(&self, spot: Spot, hint: Hint) -> Option<NoJson> {
+        Some(NoJson {
+            line: spot.line,
+            column: spot.column,
             entry: self.entries,
+            hint: Some(hint),
         })
     }
 }
@@ -240,5 +226,17 @@ fn closer(byte: u8) -> u8 {
         b'{' => b'}',
         b'[' => b']',
         _ => b')',
+    }
+}
+
+/// A bracket as a text.
+fn bracket_name(byte: u8) -> &'static str {
+    match byte {
+        b'{' => "{",
+        b'}' => "}",
+        b'[' => "[",
+        b']' => "]",
+        b'(' => "(",
+        _ => ")",
     }
 }

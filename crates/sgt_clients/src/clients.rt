@@ -5,7 +5,7 @@ ghost use Rattle.std.specs.Ordering.{nat_cmp};
 ghost use Rattle.serde_json.specs.View.{view};
 ghost use Rattle.sgt_format.specs.Trees.{tree_of};
 ghost use Rattle.sgt_notation.specs.Numbering.{KnowsItems, texts_of};
-ghost use Rattle.sgt_clients.specs.Histories.{Past, nothing, counted, with_skipped, changed, ends_at, begun, ended, ended_here, with_active, without_active, answered, with_answer, invoked, ended_by, with_kind, Answers, IsInTurnAs};
+ghost use Rattle.sgt_clients.specs.Histories.{Past, nothing, counted, with_skipped, changed, ends_at, begun, ended, with_active, without_active, answered, with_answer, invoked, ended_by, with_kind, Answers, IsInTurnAs};
 ghost use Rattle.sgt_clients.specs.declared.entry.Kind.TheVariants as kind;
 ghost use Rattle.sgt_clients.specs.Inputs.{AreClients};
 ghost use Rattle.sgt_clients.specs.Reading.{Stores, Takes, TakesText, IsSame};
@@ -190,44 +190,24 @@ impl ClientsReader {
                 let at = line.saturating_add(further.saturating_sub(1) as u64);
                 Err(ClientsFault::Entry(at, self.entries, Flaw::NotJson(column)))
             }
-            Err(ReadError::Invoked(process)) => Err(self.invoked_fault(alloc, line, process)),
+            Err(ReadError::Invoked(process, number)) => {
+                let name = shown_name(alloc, self.processes.texts.as_slice(), process)?;
+                let (other, began) = self.begin_of(number);
+                let flaw = Flaw::Invoked(name, other, began);
+                Err(ClientsFault::Entry(line, self.entries, flaw))
+            }
             Err(ReadError::OtherOperations(number)) => {
-                Err(ClientsFault::Entry(line, self.entries, self.other_flaw(number)))
+                let (other, began) = self.begin_of(number);
+                let flaw = Flaw::OtherOperations(other, began);
+                Err(ClientsFault::Entry(line, self.entries, flaw))
             }
             Err(ReadError::NoMemory) => Err(ClientsFault::from(NoMemory)),
         }
     }
 
-    /// The flaw of an end whose operations are not those of the invocation of this transaction.
-    fn other_flaw(&self, number: usize) -> Flaw {
+    /// The line and the number of the entry at which the transaction began.
+    fn begin_of(&self, number: usize) -> (u64, usize) {
         match (self.lines.get(number), self.spans.get(number)) {
-            (Some(line), Some(span)) => Flaw::OtherOperations(*line, span.began),
-            _ => Flaw::Value,
-        }
-    }
-
-    /// The error of the entry, which starts on the line: its process has another transaction.
-    fn invoked_fault(&self, alloc: Global, line: u64, process: u32) -> ClientsFault
-        ensures { IsOwn result }
-    {
-        match shown_name(alloc, self.processes.texts.as_slice(), process) {
-            Ok(name) => {
-                let (other, began) = self.place_of_active(process);
-                ClientsFault::Entry(line, self.entries, Flaw::Invoked(name, other, began))
-            }
-            Err(error) => ClientsFault::from(error),
-        }
-    }
-
-    /// The line on which the process invoked what it has not ended, and the number of that entry.
-    fn place_of_active(&self, process: u32) -> (u64, usize) {
-        let Some(invocation) = self.active.get(&process) else {
-            return (0, 0);
-        };
-        match (
-            self.lines.get(invocation.transaction),
-            self.spans.get(invocation.transaction),
-        ) {
             (Some(line), Some(span)) => (*line, span.began),
             _ => (0, 0),
         }
@@ -296,11 +276,10 @@ impl ClientsReader {
     {
         let process = entry.process;
         let transaction = self.transactions.len();
-        if self.active.contains_key(&process) {
-            return Err(ReadError::Invoked(process));
+        if let Some(invocation) = self.active.get(&process) {
+            return Err(ReadError::Invoked(process, invocation.transaction));
         }
-        self.note_owner(process)?;
-        self.add(Status::Unknown, entry.operations)?;
+        self.add(process, Status::Unknown, entry.operations)?;
         self.note_active(
             process,
             Invocation {
@@ -308,16 +287,6 @@ impl ClientsReader {
                 accesses: entry.accesses,
             },
         )?;
-        Ok(())
-    }
-
-    /// Notes the process of the next transaction.
-    fn note_owner(&mut self, process: u32) -> Result<(), NoMemory>
-        ensures same { IsSame self.old self.new }
-        ensures active { self.new.active ≡ self.old.active }
-        ensures stored { OnOk result ((p : Past) → Stores self.old p → Stores self.new p) }
-    {
-        self.owners.push(process)?;
         Ok(())
     }
 
@@ -373,9 +342,8 @@ impl ClientsReader {
         ensures stored { OnOk result ((p : Past) → Stores self.old p → Stores self.new (ended status (length p.transactions) (begun status entry.operations p))) }
     {
         let number = self.transactions.len();
-        self.note_owner(entry.process)?;
         self.note_alone(number)?;
-        self.add(status, entry.operations)?;
+        self.add(entry.process, status, entry.operations)?;
         self.note_end(number, status)
     }
 
@@ -398,25 +366,25 @@ impl ClientsReader {
     {
         match status {
             Status::Unknown => Ok(()),
-            Status::Committed | Status::Aborted => self.note_known_end(number),
+            Status::Committed | Status::Aborted => {
+                end_span(&mut self.spans, number, self.entries);
+                self.events.push(Event::Ended(number))?;
+                Ok(())
+            }
         }
     }
 
-    /// Notes that the transaction ends here.
-    fn note_known_end(&mut self, number: usize) -> Result<(), NoMemory>
-        ensures same { IsSame self.old self.new }
-        ensures stored { OnOk result ((p : Past) → Stores self.old p → Stores self.new (ended_here number p)) }
-    {
-        end_span(&mut self.spans, number, self.entries);
-        self.events.push(Event::Ended(number))?;
-        Ok(())
-    }
-
-    /// Adds a transaction that begins here, with these operations.
-    fn add(&mut self, status: Status, operations: Vec<Operation>) -> Result<(), NoMemory>
+    /// Adds a transaction of the process that begins here, with these operations.
+    fn add(
+        &mut self,
+        process: u32,
+        status: Status,
+        operations: Vec<Operation>,
+    ) -> Result<(), NoMemory>
         ensures same { IsSame self.old self.new }
         ensures stored { OnOk result ((p : Past) → Stores self.old p → Stores self.new (begun status operations p)) }
     {
+        self.owners.push(process)?;
         self.lines.push(self.line)?;
         self.events.push(Event::Began(self.transactions.len()))?;
         self.transactions.push(Transaction { status, operations })?;

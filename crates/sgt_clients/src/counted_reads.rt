@@ -2,7 +2,8 @@
 
 use crate::anomalies::{Example, Seen};
 use sgt_appends::{
-    AppendIndex, Fault, Operation, Read, Status, Transaction, ends_with, has, read_of, starts_with,
+    AppendIndex, Fault, Operation, Read, Status, Transaction, append_at, ends_with, has, read_of,
+    starts_with,
 };
 use sgt_levels::Partial;
 use sgt_model::NoMemory;
@@ -16,29 +17,23 @@ struct Tally {
     first: Option<Example>,
 }
 
-/// The anomalies of reads.
-#[derive(Clone, Copy)]
-struct Tallies {
-    unwritten: Tally,
-    aborted: Tally,
-    partial: Tally,
-    internal: Tally,
-    twice: Tally,
-    incompatible: Tally,
-}
-
-/// No read shows it.
-const NONE: Tally = Tally {
-    count: 0,
-    first: None,
-};
+/// The names of the anomalies of reads.
+const NAMES: [&str; 6] = [
+    "unwritten",
+    "G1a",
+    "G1b",
+    "internal",
+    "duplicate-elements",
+    "incompatible-order",
+];
 
 /// What is known before the reads are looked at.
 #[derive(Drop)]
-struct Known {
+struct Known<'a> {
+    history: &'a [Transaction],
     appends: AppendIndex,
-    /// For each key the first of the longest reads: the reader, and the position.
-    longest: BTreeMap<u32, (usize, usize)>,
+    /// The first of the longest reads of each key.
+    longest: BTreeMap<u32, Read<'a>>,
     /// For an append of a transaction, the position of its next one to the same key.
     next: BTreeMap<(usize, usize), usize>,
 }
@@ -53,72 +48,42 @@ pub(crate) fn count_reads(
         return Ok(());
     };
     let known = Known {
+        history,
         appends,
         longest: longest_reads(alloc, history)?,
         next: next_appends(alloc, history)?,
     };
-    let tallies = tallies_of(alloc, history, &known)?;
-    add_tallies(all, &tallies)
-}
-
-/// The anomalies that the reads of committed transactions show.
-fn tallies_of(alloc: Global, history: &[Transaction], known: &Known) -> Result<Tallies, NoMemory> {
-    let mut tallies = Tallies {
-        unwritten: NONE,
-        aborted: NONE,
-        partial: NONE,
-        internal: NONE,
-        twice: NONE,
-        incompatible: NONE,
-    };
-    for number in 0..history.len() {
-        count_transaction(alloc, history, known, &mut tallies, number)?;
+    let mut tallies = [Tally {
+        count: 0,
+        first: None,
+    }; 6];
+    for (number, transaction) in history.iter().enumerate() {
+        known.count_transaction(alloc, &mut tallies, number, transaction)?;
     }
-    Ok(tallies)
-}
-
-/// Adds the anomalies that some read shows.
-fn add_tallies(all: &mut Vec<Seen>, tallies: &Tallies) -> Result<(), NoMemory> {
-    add_tally(all, "unwritten", tallies.unwritten)?;
-    add_tally(all, "G1a", tallies.aborted)?;
-    add_tally(all, "G1b", tallies.partial)?;
-    add_tally(all, "internal", tallies.internal)?;
-    add_tally(all, "duplicate-elements", tallies.twice)?;
-    add_tally(all, "incompatible-order", tallies.incompatible)
-}
-
-/// Adds the anomaly, if a read shows it.
-fn add_tally(all: &mut Vec<Seen>, name: &'static str, tally: Tally) -> Result<(), NoMemory> {
-    match tally.first {
-        Some(first) => {
+    for (name, tally) in NAMES.iter().zip(&tallies) {
+        if let Some(first) = tally.first {
             all.push(Seen {
                 name,
                 count: tally.count,
                 first,
             })?;
-            Ok(())
         }
-        None => Ok(()),
     }
+    Ok(())
 }
 
 /// The first of the longest reads of each key.
 fn longest_reads(
     alloc: Global,
     history: &[Transaction],
-) -> Result<BTreeMap<u32, (usize, usize)>, NoMemory> {
-    let mut longest = BTreeMap::new(alloc);
-    let mut lengths = BTreeMap::new(alloc);
+) -> Result<BTreeMap<u32, Read<'_>>, NoMemory> {
+    let mut longest: BTreeMap<u32, Read<'_>> = BTreeMap::new(alloc);
     for (number, transaction) in history.iter().enumerate() {
         for position in 0..transaction.operations.len() {
             if let Some(read) = read_of(history, number, position) {
-                let is_longer = match lengths.get(&read.key) {
-                    Some(length) => read.seen.len() > *length,
-                    None => true,
-                };
-                if is_longer {
-                    lengths.insert(read.key, read.seen.len())?;
-                    longest.insert(read.key, (number, position))?;
+                let before = longest.get(&read.key);
+                if before.is_none_or(|other| read.seen.len() > other.seen.len()) {
+                    longest.insert(read.key, read)?;
                 }
             }
         }
@@ -147,124 +112,165 @@ fn next_appends(
     Ok(next)
 }
 
-/// Counts the reads of the transaction, if it committed.
-fn count_transaction(
-    alloc: Global,
-    history: &[Transaction],
-    known: &Known,
-    tallies: &mut Tallies,
-    number: usize,
-) -> Result<(), NoMemory> {
-    let Some(transaction) = history.get(number) else {
-        return Ok(());
-    };
-    let mut own: BTreeMap<u32, Vec<u64>> = BTreeMap::new(alloc);
-    for (position, operation) in transaction.operations.iter().enumerate() {
-        if let Some(read) = read_of(history, number, position) {
-            count_read(alloc, history, known, tallies, &own, read)?;
+impl Known<'_> {
+    /// Counts the reads of the transaction, if it committed.
+    fn count_transaction(
+        &self,
+        alloc: Global,
+        tallies: &mut [Tally; 6],
+        number: usize,
+        transaction: &Transaction,
+    ) -> Result<(), NoMemory> {
+        let mut own: BTreeMap<u32, Vec<u64>> = BTreeMap::new(alloc);
+        for (position, operation) in transaction.operations.iter().enumerate() {
+            if let Some(read) = read_of(self.history, number, position) {
+                self.count_read(alloc, tallies, &own, read)?;
+            }
+            if let Operation::Append { key, value } = operation {
+                own.entry(*key)?
+                    .or_insert_with(|| Vec::new(alloc))
+                    .push(*value)?;
+            }
         }
-        if let Operation::Append { key, value } = operation {
-            let mut values = match own.remove(key) {
-                Some(values) => values,
-                None => Vec::new(alloc),
-            };
-            values.push(*value)?;
-            own.insert(*key, values)?;
-        }
+        Ok(())
     }
-    Ok(())
-}
 
-/// Counts the read for each anomaly that it shows. `own` has what its transaction appends before.
-fn count_read(
-    alloc: Global,
-    history: &[Transaction],
-    known: &Known,
-    tallies: &mut Tallies,
-    own: &BTreeMap<u32, Vec<u64>>,
-    read: Read<'_>,
-) -> Result<(), NoMemory> {
-    note_fault(&mut tallies.unwritten, read, unwritten(known, read));
-    note_fault(&mut tallies.aborted, read, aborted(history, known, read));
-    note_fault(&mut tallies.internal, read, internal(known, own, read));
-    let repeated = twice(alloc, read)?;
-    note_fault(&mut tallies.twice, read, repeated);
-    note_fault(
-        &mut tallies.incompatible,
-        read,
-        incompatible(alloc, history, known, read, repeated.is_none())?,
-    );
-    if let Some(partial) = intermediate(history, known, read) {
-        note(&mut tallies.partial, Example::Partial(partial));
-    }
-    Ok(())
-}
-
-/// Counts the read, if there is a fault.
-fn note_fault(tally: &mut Tally, read: Read<'_>, fault: Option<Fault>) {
-    if let Some(fault) = fault {
-        let example = Example::Read {
+    /// Counts the read for each anomaly that it shows. `own` has what its transaction appends before.
+    fn count_read(
+        &self,
+        alloc: Global,
+        tallies: &mut [Tally; 6],
+        own: &BTreeMap<u32, Vec<u64>>,
+        read: Read<'_>,
+    ) -> Result<(), NoMemory> {
+        let repeated = twice(alloc, read)?;
+        let fault = |fault| Example::Read {
             reader: read.reader,
             read: read.position,
             fault,
         };
-        note(tally, example);
-    }
-}
-
-/// Counts one more.
-fn note(tally: &mut Tally, example: Example) {
-    tally.count = tally.count.saturating_add(1);
-    if tally.first.is_none() {
-        tally.first = Some(example);
-    }
-}
-
-/// A value that no transaction appends.
-fn unwritten(known: &Known, read: Read<'_>) -> Option<Fault> {
-    for value in read.seen {
-        if known.appends.find(read.key, *value).is_none() {
-            return Some(Fault::Unwritten(*value));
-        }
-    }
-    None
-}
-
-/// A value of a transaction that aborted.
-fn aborted(history: &[Transaction], known: &Known, read: Read<'_>) -> Option<Fault> {
-    for value in read.seen {
-        if let Some((by, append)) = known.appends.find(read.key, *value) {
-            if has_aborted(history, by) {
-                return Some(Fault::Aborted { by, append });
+        let examples = [
+            self.unwritten(read).map(fault),
+            self.aborted(read).map(fault),
+            self.intermediate(read)
+                .map(|partial| Example::Partial(partial)),
+            self.internal(own, read).map(fault),
+            repeated.map(fault),
+            self.incompatible(alloc, read, repeated.is_none())?
+                .map(fault),
+        ];
+        for (tally, example) in tallies.iter_mut().zip(&examples) {
+            if example.is_some() {
+                tally.count = tally.count.saturating_add(1);
+                tally.first = tally.first.or(*example);
             }
         }
+        Ok(())
     }
-    None
-}
 
-/// Whether the transaction aborted.
-fn has_aborted(history: &[Transaction], number: usize) -> bool {
-    match history.get(number) {
-        Some(transaction) => transaction.status == Status::Aborted,
-        None => false,
+    /// A value that no transaction appends.
+    fn unwritten(&self, read: Read<'_>) -> Option<Fault> {
+        let mut seen = read.seen.iter().copied();
+        Some(Fault::Unwritten(seen.find(|value| self.appends.find(read.key, *value).is_none())?))
     }
-}
 
-/// What contradicts the appends of the reader itself: those before the read are the end of the list, and none after it is in it.
-fn internal(known: &Known, own: &BTreeMap<u32, Vec<u64>>, read: Read<'_>) -> Option<Fault> {
-    if let Some(values) = own.get(&read.key) {
-        if !ends_with(read.seen, values.as_slice()) {
+    /// A value of a transaction that aborted.
+    fn aborted(&self, read: Read<'_>) -> Option<Fault> {
+        read.seen.iter().find_map(|value| {
+            let (by, append) = self.appends.find(read.key, *value)?;
+            self.has_aborted(by)
+                .then_some(Fault::Aborted { by, append })
+        })
+    }
+
+    /// Whether the transaction aborted.
+    fn has_aborted(&self, number: usize) -> bool {
+        self.history
+            .get(number)
+            .is_some_and(|transaction| transaction.status == Status::Aborted)
+    }
+
+    /// What contradicts the appends of the reader itself: those before the read are the end of the list, and none after it is
+    /// in it.
+    fn internal(&self, own: &BTreeMap<u32, Vec<u64>>, read: Read<'_>) -> Option<Fault> {
+        if own
+            .get(&read.key)
+            .is_some_and(|values| !ends_with(read.seen, values.as_slice()))
+        {
             return Some(Fault::EndsOtherwise);
         }
+        read.seen.iter().find_map(|value| {
+            let (by, append) = self.appends.find(read.key, *value)?;
+            (by == read.reader && append >= read.position).then_some(Fault::Ahead { append })
+        })
     }
-    for value in read.seen {
-        if let Some((by, append)) = known.appends.find(read.key, *value) {
-            if by == read.reader && append >= read.position {
-                return Some(Fault::Ahead { append });
-            }
+
+    /// What contradicts the order of the longest read of the key, or, if no value stands in the list twice, of the appends of
+    /// one transaction.
+    fn incompatible(
+        &self,
+        alloc: Global,
+        read: Read<'_>,
+        is_order: bool,
+    ) -> Result<Option<Fault>, NoMemory> {
+        match self.longest.get(&read.key) {
+            Some(whole) if !starts_with(whole.seen, read.seen) => Ok(Some(Fault::Incompatible {
+                other: whole.reader,
+                read: whole.position,
+            })),
+            _ if is_order => self.swapped(alloc, read),
+            _ => Ok(None),
         }
     }
-    None
+
+    /// Two values of one transaction in the opposite order.
+    fn swapped(&self, alloc: Global, read: Read<'_>) -> Result<Option<Fault>, NoMemory> {
+        let mut last = BTreeMap::new(alloc);
+        for value in read.seen {
+            if let Some((by, append)) = self.appends.find(read.key, *value) {
+                match last.insert(by, append)? {
+                    Some(before) if before > append => {
+                        return Ok(Some(Fault::Swapped {
+                            by,
+                            first: append,
+                            second: before,
+                        }));
+                    }
+                    _ => (),
+                }
+            }
+        }
+        Ok(None)
+    }
+
+    /// The last value of another transaction that may have committed, if that appends to the key again, and the read did not
+    /// see it.
+    fn intermediate(&self, read: Read<'_>) -> Option<Partial> {
+        let (by, seen) = read.seen.iter().rev().find_map(|value| {
+            let (by, seen) = self.appends.find(read.key, *value)?;
+            (by != read.reader && !self.has_aborted(by)).then_some((by, seen))
+        })?;
+        Some(Partial {
+            reader: read.reader,
+            read: read.position,
+            by,
+            seen,
+            missed: self.missed_after(read, by, seen)?,
+        })
+    }
+
+    /// The next append of the transaction to the key that the read did not see.
+    fn missed_after(&self, read: Read<'_>, by: usize, append: usize) -> Option<usize> {
+        let mut at = append;
+        for _ in 0..self.history.get(by)?.operations.len() {
+            at = self.next.get(&(by, at)).copied()?;
+            let (_, value) = append_at(self.history, by, at)?;
+            if !has(read.seen, value) {
+                return Some(at);
+            }
+        }
+        None
+    }
 }
 
 /// A value that stands in the list twice.
@@ -276,90 +282,4 @@ fn twice(alloc: Global, read: Read<'_>) -> Result<Option<Fault>, NoMemory> {
         }
     }
     Ok(None)
-}
-
-/// What contradicts the order of the longest read of the key, or, if no value stands in the list twice, of the appends of one
-/// transaction.
-fn incompatible(
-    alloc: Global,
-    history: &[Transaction],
-    known: &Known,
-    read: Read<'_>,
-    is_order: bool,
-) -> Result<Option<Fault>, NoMemory> {
-    if let Some((other, position)) = known.longest.get(&read.key).copied() {
-        if let Some(whole) = read_of(history, other, position) {
-            if !starts_with(whole.seen, read.seen) {
-                return Ok(Some(Fault::Incompatible {
-                    other,
-                    read: position,
-                }));
-            }
-        }
-    }
-    if is_order {
-        swapped(alloc, known, read)
-    } else {
-        Ok(None)
-    }
-}
-
-/// Two values of one transaction in the opposite order.
-fn swapped(alloc: Global, known: &Known, read: Read<'_>) -> Result<Option<Fault>, NoMemory> {
-    let mut last = BTreeMap::new(alloc);
-    for value in read.seen {
-        if let Some((by, append)) = known.appends.find(read.key, *value) {
-            if let Some(before) = last.insert(by, append)? {
-                if before > append {
-                    return Ok(Some(Fault::Swapped {
-                        by,
-                        first: append,
-                        second: before,
-                    }));
-                }
-            }
-        }
-    }
-    Ok(None)
-}
-
-/// The last value of another transaction that may have committed, if that appends to the key again, and the read did not
-/// see it.
-fn intermediate(history: &[Transaction], known: &Known, read: Read<'_>) -> Option<Partial> {
-    for value in read.seen.iter().rev() {
-        if let Some((by, seen)) = known.appends.find(read.key, *value) {
-            if by != read.reader && !has_aborted(history, by) {
-                let missed = missed_after(history, known, read, by, seen)?;
-                return Some(Partial {
-                    reader: read.reader,
-                    read: read.position,
-                    by,
-                    seen,
-                    missed,
-                });
-            }
-        }
-    }
-    None
-}
-
-/// The next append of the transaction to the key that the read did not see.
-fn missed_after(
-    history: &[Transaction],
-    known: &Known,
-    read: Read<'_>,
-    by: usize,
-    append: usize,
-) -> Option<usize> {
-    let transaction = history.get(by)?;
-    let mut at = append;
-    for _ in 0..transaction.operations.len() {
-        at = known.next.get(&(by, at)).copied()?;
-        if let Some(Operation::Append { value, .. }) = transaction.operations.get(at) {
-            if !has(read.seen, *value) {
-                return Some(at);
-            }
-        }
-    }
-    None
 }

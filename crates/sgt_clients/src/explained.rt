@@ -1,9 +1,7 @@
 //! A wrong entry as it is reported: at its place in the input as it was typed, and with what a second line says.
-ghost use Rattle.std.specs.Prelude.{◌≡◌, ◌<◌, ◌≤◌, length, IfSome, slice_index, false};
 ghost use Rattle.sgt_clients.specs.Faults.{IsOwn};
-ghost use Rattle.sgt_clients.specs.Objects.{is_between};
 
-use crate::breaks::{Bracket, Break, FoundBreak, Spot, first_break};
+use crate::breaks::{NoJson, first_break};
 use crate::fault::{ClientsFault, Flaw};
 use crate::found::found_hint;
 use crate::glued::glued_at;
@@ -22,42 +20,25 @@ const BYTE_ORDER_MARK: &[u8] = b"\xef\xbb\xbf";
 pub(crate) fn explained(alloc: Global, input: &[u8], fault: ClientsFault) -> ClientsFault
     ensures { IsOwn fault → IsOwn result }
 {
-    match fault {
-        ClientsFault::Entry(line, entry, flaw) => match explained_entry(
-            alloc, input, entry, &flaw,
-        ) {
-            Ok(Some(found)) => with_hint(
-                found.line,
-                found.entry,
-                Flaw::NotJson(found.column),
-                found.hint,
-            ),
-            _ => {
-                let hint = flaw_hint(alloc, input, entry, &flaw);
-                with_hint(line, entry, flaw, hint)
-            }
-        },
-        other => other,
-    }
-}
-
-/// The error of an entry, with a hint if there is one.
-fn with_hint(line: u64, entry: usize, flaw: Flaw, hint: Option<Hint>) -> ClientsFault
-    ensures { IsOwn result }
-{
+    let ClientsFault::Entry(line, entry, flaw) = fault else {
+        return fault;
+    };
+    let (line, entry, flaw, hint) = match explained_entry(alloc, input, entry, &flaw) {
+        Ok(Some(found)) => (
+            found.line,
+            found.entry,
+            Flaw::NotJson(found.column),
+            found.hint,
+        ),
+        _ => {
+            let hint = flaw_hint(alloc, input, entry, &flaw);
+            (line, entry, flaw, hint)
+        }
+    };
     match hint {
         Some(hint) => ClientsFault::Hinted(line, entry, flaw, hint),
         None => ClientsFault::Entry(line, entry, flaw),
     }
-}
-
-/// Where an input stops being JSON or EDN, and a hint.
-#[derive(Drop)]
-struct NoJson {
-    line: u64,
-    column: usize,
-    entry: usize,
-    hint: Option<Hint>,
 }
 
 /// Where the input stops being JSON or EDN, if it does so in this entry or before, which has this flaw.
@@ -86,15 +67,17 @@ fn explained_entry(
     } else {
         edn_index(alloc, input, in_json)?
     };
-    let found = match first_break(alloc, input, !is_json, last_at(input, at))? {
-        Some(found) => of_break(found),
+    let mut found = match first_break(alloc, input, !is_json, last_at(input, at))? {
+        Some(found) => found,
         None if is_broken => of_place(input, entry, at, at == object.start),
         None => return Ok(None),
     };
     if is_mixed(alloc, input, object)? {
-        return Ok(Some(hinted(&found, Hint::JsonEntry)));
+        found.hint = Some(Hint::JsonEntry);
+    } else if let Some(column) = glued_in(input, &found) {
+        found.hint = Some(Hint::Glued(found.entry, column));
     }
-    Ok(Some(with_glued(input, found)))
+    Ok(Some(found))
 }
 
 /// Whether the object of a text in JSON is an entry in JSON of an input in EDN.
@@ -114,32 +97,19 @@ fn starts_json(text: &[u8]) -> bool {
     let [b'"', name @ ..] = rest.trim_ascii_start() else {
         return false;
     };
-    for at in 0..name.len() {
-        if name[at] == b'"' {
-            return name[at + 1..].trim_ascii_start().starts_with(b":");
-        }
-    }
-    false
+    let mut parts = name.split(|byte| *byte == b'"');
+    parts
+        .nth(1)
+        .is_some_and(|after| after.trim_ascii_start().starts_with(b":"))
 }
 
-/// The same with the hint that another entry begins in the line of this place, if one does before it.
-fn with_glued(input: &[u8], found: NoJson) -> NoJson {
-    let start = line_start(input, found.line as usize);
-    let line = input.get(start..).unwrap_or(b"");
-    match glued_at(line, found.column) {
-        Some(column) => hinted(&found, Hint::Glued(found.entry, column)),
-        None => found,
-    }
-}
-
-/// The same place with this hint.
-fn hinted(found: &NoJson, hint: Hint) -> NoJson {
-    NoJson {
-        line: found.line,
-        column: found.column,
-        entry: found.entry,
-        hint: Some(hint),
-    }
+/// The column at which another entry begins in the line of this place, if one does before it.
+fn glued_in(input: &[u8], found: &NoJson) -> Option<usize> {
+    let before = (found.line as usize).saturating_sub(1);
+    glued_at(
+        input.split(|byte| *byte == b'\n').nth(before)?,
+        found.column,
+    )
 }
 
 /// The last index at which a break can be the reason of an error at this one: if a text is wrong, the end of its line.
@@ -147,12 +117,12 @@ fn last_at(input: &[u8], at: usize) -> usize {
     if input.get(at) != Some(&b'"') {
         return at;
     }
-    for index in at..input.len() {
-        if input[index] == b'\n' {
-            return index;
-        }
-    }
-    input.len()
+    at.saturating_add(first_line(input.get(at..).unwrap_or(b"")).len())
+}
+
+/// The bytes up to the first newline.
+fn first_line(text: &[u8]) -> &[u8] {
+    text.split(|byte| *byte == b'\n').next().unwrap_or(b"")
 }
 
 /// The text of the input in JSON.
@@ -160,9 +130,7 @@ fn json_of(alloc: Global, input: &[u8]) -> Result<Vec<u8>, NoMemory> {
     if is_edn(input) {
         return json_of_edn(alloc, input);
     }
-    let mut json = Vec::new(alloc);
-    json.extend_from_slice(input)?;
-    Ok(json)
+    Ok(input.to_vec(alloc)?)
 }
 
 /// An object of a text in JSON: the indices of its first byte and of the one after it.
@@ -173,32 +141,16 @@ struct Object {
 }
 
 /// The object of this number from 1.
-fn object_of(json: &[u8], number: usize) -> Option<Object>
-    ensures { IfSome result (λ o. (o.start ≤ o.end) × (o.end ≤ length json.now)) }
-{
-    let mut from = Place { at: 0, line: 1 };
-    for _ in 1..number {
-        let object = next_of(json, from)?;
-        from = Place {
-            at: object.end,
-            line: 1,
-        };
+fn object_of(json: &[u8], number: usize) -> Option<Object> {
+    let mut start = Place { at: 0, line: 1 };
+    let mut end = start;
+    for _ in 0..number {
+        start = next_object(json, end);
+        if start.at >= json.len() {
+            return None;
+        }
+        end = object_end(json, start);
     }
-    next_of(json, from)
-}
-
-/// The next object after this place.
-fn next_of(json: &[u8], from: Place) -> Option<Object>
-    ensures { IfSome result (λ o. (o.start ≤ o.end) × (o.end ≤ length json.now)) }
-{
-    if from.at > json.len() {
-        return None;
-    }
-    let start = next_object(json, from);
-    if start.at >= json.len() {
-        return None;
-    }
-    let end = object_end(json, start);
     Some(Object {
         start: start.at,
         end: end.at,
@@ -206,102 +158,35 @@ fn next_of(json: &[u8], from: Place) -> Option<Object>
 }
 
 /// The index at which the object stops being JSON.
-fn broken_at(alloc: Global, json: &[u8], object: Object) -> Result<usize, NoMemory>
-    requires { (object.start ≤ object.end) × (object.end ≤ length json.now) }
-{
-    let text = &json[object.start..object.end];
+fn broken_at(alloc: Global, json: &[u8], object: Object) -> Result<usize, NoMemory> {
+    let text = json.get(object.start..object.end).unwrap_or(b"");
     match Value::from_slice(alloc, text) {
         Ok(_) => Ok(object.end),
+        Err(error) if error.is_memory() => Err(NoMemory),
+        Err(error) if error.is_eof() && object.end == json.len() => Ok(json.len()),
         Err(error) => {
-            if error.is_memory() {
-                return Err(NoMemory);
+            let mut at = object
+                .start
+                .saturating_add(error.column().saturating_sub(1));
+            let before = error.line().saturating_sub(1);
+            for line in text.split(|byte| *byte == b'\n').take(before) {
+                at = at.saturating_add(line.len()).saturating_add(1);
             }
-            if error.is_eof() && object.end == json.len() {
-                return Ok(json.len());
-            }
-            let start = line_start(text, error.line());
-            let in_line = error.column().saturating_sub(1);
-            Ok(object.start.saturating_add(start).saturating_add(in_line))
+            Ok(at)
         }
-    }
-}
-
-/// The index at which the line of this number from 1 starts.
-fn line_start(text: &[u8], number: usize) -> usize {
-    let mut line = 1usize;
-    for at in 0..text.len() {
-        if line >= number {
-            return at;
-        }
-        if text[at] == b'\n' {
-            line = line.saturating_add(1);
-        }
-    }
-    text.len()
-}
-
-/// The place and hint of a break.
-fn of_break(found: FoundBreak) -> NoJson {
-    let entry = found.entry;
-    match found.found {
-        Break::Mismatch(bracket, open) => at_spot(bracket.spot, entry, of_bracket(bracket, open)),
-        Break::Line(spot, next) => at_spot(spot, entry, Hint::Line(entry, next)),
-        Break::Input(spot, line) => at_spot(spot, entry, Hint::Input(entry, line)),
-        Break::Text(spot, column) => at_spot(spot, entry, Hint::Text(column)),
-    }
-}
-
-/// The hint of a closing bracket, where this one is open or nothing.
-fn of_bracket(bracket: Bracket, open: Option<Bracket>) -> Hint {
-    match open {
-        Some(open) => Hint::Mismatch(
-            bracket_name(bracket.byte),
-            bracket_name(open.byte),
-            open.spot.line,
-            open.spot.column,
-        ),
-        None => Hint::Stray(bracket_name(bracket.byte)),
-    }
-}
-
-/// A bracket as a text.
-fn bracket_name(byte: u8) -> &'static str {
-    match byte {
-        b'{' => "{",
-        b'}' => "}",
-        b'[' => "[",
-        b']' => "]",
-        b'(' => "(",
-        _ => ")",
-    }
-}
-
-fn at_spot(spot: Spot, entry: usize, hint: Hint) -> NoJson {
-    NoJson {
-        line: spot.line,
-        column: spot.column,
-        entry,
-        hint: Some(hint),
     }
 }
 
 /// The place of this index, with the hint of the bytes that stand there.
 fn of_place(input: &[u8], entry: usize, at: usize, is_first: bool) -> NoJson {
-    let at = at.min(input.len());
-    let before = &input[..at];
-    let mut line = 1u64;
-    let mut start = 0usize;
-    for index in 0..before.len() {
-        if before[index] == b'\n' {
-            line = line.saturating_add(1);
-            start = index + 1;
-        }
-    }
+    let (before, after) = input.split_at(at.min(input.len()));
+    let newlines = before.iter().filter(|byte| **byte == b'\n').count();
+    let line = before.rsplit(|byte| *byte == b'\n').next().unwrap_or(b"");
     NoJson {
-        line,
-        column: at.saturating_sub(start).saturating_add(1),
+        line: (newlines as u64).saturating_add(1),
+        column: line.len().saturating_add(1),
         entry,
-        hint: bytes_hint(before, &input[at..], is_first && entry == 1, is_edn(input)),
+        hint: bytes_hint(before, after, is_first && entry == 1, is_edn(input)),
     }
 }
 
@@ -315,20 +200,18 @@ fn bytes_hint(before: &[u8], after: &[u8], is_first: bool, is_edn: bool) -> Opti
         Some(b'_') if before.ends_with(b"#") => Some(Hint::Discard),
         Some(b'}') if is_edn && !is_outside(before) => Some(Hint::Pair),
         Some(b'{' | b'}' | b'#' | b':' | b'"') => None,
-        Some(_) if is_first && is_outside(before) && has_end(after) => Some(Hint::Head),
-        Some(_) if is_first && is_outside(before) => Some(Hint::History),
+        Some(_) if is_first && is_outside(before) => Some(if has_end(after) {
+            Hint::Head
+        } else {
+            Hint::History
+        }),
         _ => None,
     }
 }
 
 /// Whether the first line of these bytes ends as the one of an entry does.
 fn has_end(text: &[u8]) -> bool {
-    for at in 0..text.len() {
-        if text[at] == b'\n' {
-            return text[..at].trim_ascii_end().ends_with(b"}");
-        }
-    }
-    text.trim_ascii_end().ends_with(b"}")
+    first_line(text).trim_ascii_end().ends_with(b"}")
 }
 
 /// Whether no bracket stands before: text that begins with one is not read as a history either.
@@ -352,32 +235,20 @@ fn flaw_hint(alloc: Global, input: &[u8], entry: usize, flaw: &Flaw) -> Option<H
 
 /// The hint of an entry that is JSON, and has this flaw.
 fn tree_hint(alloc: Global, input: &[u8], entry: usize, flaw: &Flaw) -> Option<Hint> {
-    let Ok(json) = json_of(alloc, input) else {
-        return None;
-    };
+    let json = json_of(alloc, input).ok()?;
     let object = object_of(json.as_slice(), entry)?;
     if is_mixed(alloc, input, object).unwrap_or(false) {
         return Some(Hint::JsonEntry);
     }
-    match Value::from_slice(alloc, &json[object.start..object.end]) {
-        Ok(tree) => match member_hint(&tree, flaw) {
-            Some(hint) => Some(hint),
-            None => found_hint(alloc, &tree, flaw, is_edn(input)),
-        },
-        Err(_) => None,
-    }
-}
-
-/// The hint of the member that has this flaw.
-fn member_hint(tree: &Value, flaw: &Flaw) -> Option<Hint> {
+    let tree = Value::from_slice(alloc, json.get(object.start..object.end)?).ok()?;
     match flaw {
-        Flaw::Process => match tree.get("process") {
-            Some(_) => None,
-            None if tree.get("limits").is_some() => Some(Hint::Script),
-            None => Some(Hint::Missing("process")),
-        },
+        Flaw::Process if tree.get("process").is_none() => Some(if tree.get("limits").is_some() {
+            Hint::Script
+        } else {
+            Hint::Missing("process")
+        }),
         Flaw::Type if tree.get("type").is_none() => Some(Hint::Missing("type")),
         Flaw::Value if tree.get("value").is_none() => Some(Hint::Missing("value")),
-        _ => None,
+        _ => found_hint(alloc, &tree, flaw, is_edn(input)),
     }
 }

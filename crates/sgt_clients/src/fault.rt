@@ -62,8 +62,8 @@ pub(crate) enum ReadError {
     Flaw(Flaw),
     /// The text is not JSON, from this line and column of it on, both from 1.
     NotJson(usize, usize),
-    /// The process with this number has invoked another transaction, and has not ended it.
-    Invoked(u32),
+    /// The process with this number has invoked this other transaction, and has not ended it.
+    Invoked(u32, usize),
     /// The operations are not those of the transaction's invocation.
     OtherOperations(usize),
     /// An allocation failed.

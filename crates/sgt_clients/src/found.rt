@@ -22,9 +22,7 @@ pub(crate) fn found_hint(alloc: Global, tree: &Value, flaw: &Flaw, is_edn: bool)
     if is_edn && is_of_entry {
         return Some(Hint::EdnEntry);
     }
-    let Ok(shown) = shown(alloc, part, is_edn) else {
-        return None;
-    };
+    let shown = shown(alloc, part, is_edn).ok()?;
     if is_of_entry {
         Some(Hint::FoundInEntry(shown))
     } else {
@@ -43,7 +41,9 @@ fn part_of<'a>(tree: &'a Value, flaw: &Flaw) -> Option<&'a Value> {
         Flaw::Number(number) => {
             let argument = items(operation_of(tree, *number)?)?.get(2)?;
             match items(argument) {
-                Some(values) => first_no_value(values),
+                Some(values) => values.iter().find(|value| !value
+                    .as_i64()
+                    .is_some_and(|number| is_value(number))),
                 None => Some(argument),
             }
         }
@@ -54,20 +54,6 @@ fn part_of<'a>(tree: &'a Value, flaw: &Flaw) -> Option<&'a Value> {
 /// The operation of this number, from 1.
 fn operation_of(tree: &Value, number: usize) -> Option<&Value> {
     items(tree.get("value")?)?.get(number.checked_sub(1)?)
-}
-
-/// The first item that is not a value.
-fn first_no_value(values: &[Value]) -> Option<&Value> {
-    for value in values {
-        let is_good = match value.as_i64() {
-            Some(number) => is_value(number),
-            None => false,
-        };
-        if !is_good {
-            return Some(value);
-        }
-    }
-    None
 }
 
 /// Whether an operation of EDN is a read of `null`, which is a symbol there.

@@ -6,8 +6,7 @@ const TYPES: [&str; 4] = ["invoke", "ok", "fail", "info"];
 /// The column, from 1, at which another entry begins in this line before this column: a brace and what the entry before it
 /// begins with too, up to its first value, which is a type. It is the last one.
 pub(crate) fn glued_at(line: &[u8], column: usize) -> Option<usize> {
-    let line = first_line(line);
-    let begin = brace_after(line, 0)?;
+    let begin = line.iter().position(|byte| *byte == b'{')?;
     let start = start_of(line.get(begin..)?)?;
     let mut found = None;
     for at in begin.saturating_add(1)..line.len().min(column) {
@@ -17,26 +16,6 @@ pub(crate) fn glued_at(line: &[u8], column: usize) -> Option<usize> {
         }
     }
     found
-}
-
-/// The bytes up to the first newline.
-fn first_line(text: &[u8]) -> &[u8] {
-    for at in 0..text.len() {
-        if text[at] == b'\n' {
-            return &text[..at];
-        }
-    }
-    text
-}
-
-/// The index of the first brace from this index on.
-fn brace_after(line: &[u8], from: usize) -> Option<usize> {
-    for at in from..line.len() {
-        if line[at] == b'{' {
-            return Some(at);
-        }
-    }
-    None
 }
 
 /// What an entry begins with before its type, if that is its first value: `{"type":` or `{:type `.
@@ -52,13 +31,8 @@ fn start_of(entry: &[u8]) -> Option<&[u8]> {
 
 /// Whether a type stands here: `"ok"` or `:ok`.
 fn is_type(text: &[u8]) -> bool {
-    let [b'"' | b':', rest @ ..] = text else {
-        return false;
-    };
-    for word in TYPES {
-        if rest.starts_with(word.as_bytes()) {
-            return true;
-        }
+    match text {
+        [b'"' | b':', rest @ ..] => TYPES.iter().any(|word| rest.starts_with(word.as_bytes())),
+        _ => false,
     }
-    false
 }

@@ -5,7 +5,7 @@ ghost use Rattle.std.specs.Option.{option_map_or};
 ghost use Rattle.sgt_levels.specs.Answers.{AreRight};
 ghost use Rattle.sgt_levels.specs.Unseen.{AreUnseen};
 ghost use Rattle.sgt_clients.specs.Findings.{IsFound, is_order};
-ghost use Rattle.sgt_clients.specs.Levels.{serial_finding, serial_answer, writes_answer, committed_answer, snapshot_answer, answer_of, is_yes, first_level, strongest_of, AreFound};
+ghost use Rattle.sgt_clients.specs.Levels.{serial_finding, serial_answer, writes_answer, committed_answer, snapshot_answer, answer_of, is_yes, strongest_of, AreFound};
 ghost use Rattle.sgt_clients.specs.declared.level.Answer.TheVariants.{Yes};
 
 use crate::anomalies::{Seen, anomalies_of};
@@ -61,10 +61,19 @@ impl LevelFindings {
         ensures { result ≡ answer_of self.now level }
     {
         match level {
-            Level::ReadUncommitted => writes_of(&self.weaker),
-            Level::ReadCommitted => committed_of(&self.weaker),
-            Level::SnapshotIsolation => snapshot_of(&self.weaker),
-            Level::Serializable => serial_of(&self.finding, &self.untimed),
+            Level::ReadUncommitted => match &self.weaker {
+                Some(weaker) => writes_answer(&weaker.levels.writes),
+                None => Answer::Yes,
+            },
+            Level::ReadCommitted => match &self.weaker {
+                Some(weaker) => committed_answer(&weaker.levels.committed),
+                None => Answer::Yes,
+            },
+            Level::SnapshotIsolation => match &self.weaker {
+                Some(weaker) => snapshot_answer(&weaker.levels.snapshot),
+                None => Answer::Yes,
+            },
+            Level::Serializable => serial_answer(serial_finding(&self.finding, &self.untimed)),
             Level::StrictSerializable => serial_answer(&self.finding),
         }
     }
@@ -80,81 +89,29 @@ impl LevelFindings {
     pub fn strongest(&self, strict: bool) -> Option<Level>
         ensures { result ≡ strongest_of strict self.now }
     {
-        first_level(
-            strict && self.holds(Level::StrictSerializable),
-            self.holds(Level::Serializable),
-            self.holds(Level::SnapshotIsolation),
-            self.holds(Level::ReadCommitted),
-            self.holds(Level::ReadUncommitted),
-        )
+        if strict && self.holds(Level::StrictSerializable) {
+            Some(Level::StrictSerializable)
+        } else if self.holds(Level::Serializable) {
+            Some(Level::Serializable)
+        } else if self.holds(Level::SnapshotIsolation) {
+            Some(Level::SnapshotIsolation)
+        } else if self.holds(Level::ReadCommitted) {
+            Some(Level::ReadCommitted)
+        } else if self.holds(Level::ReadUncommitted) {
+            Some(Level::ReadUncommitted)
+        } else {
+            None
+        }
     }
 }
 
-/// The first of the levels, from the strongest on, that holds.
-fn first_level(
-    strict: bool,
-    serial: bool,
-    snapshot: bool,
-    committed: bool,
-    uncommitted: bool,
-) -> Option<Level>
-    ensures { result ≡ first_level strict serial snapshot committed uncommitted }
-{
-    if strict {
-        return Some(Level::StrictSerializable);
-    }
-    if serial {
-        return Some(Level::Serializable);
-    }
-    if snapshot {
-        return Some(Level::SnapshotIsolation);
-    }
-    if committed {
-        return Some(Level::ReadCommitted);
-    }
-    if uncommitted {
-        return Some(Level::ReadUncommitted);
-    }
-    None
-}
-
-/// The answer for serializability: of the finding without real time, if there is one.
-fn serial_of(finding: &Finding, untimed: &Option<Finding>) -> Answer
-    ensures { result ≡ serial_answer (serial_finding finding.now untimed.now) }
+/// The finding without real time: the other one, if there is one.
+fn serial_finding<'a>(finding: &'a Finding, untimed: &'a Option<Finding>) -> &'a Finding
+    ensures { result.now ≡ serial_finding finding.now untimed.now }
 {
     match untimed {
-        Some(other) => serial_answer(other),
-        None => serial_answer(finding),
-    }
-}
-
-/// The answer for read uncommitted, which holds if nothing was found on it.
-fn writes_of(weaker: &Option<Weaker>) -> Answer
-    ensures { result ≡ option_map_or (λ w. writes_answer w.levels.writes) weaker.now Yes }
-{
-    match weaker {
-        Some(found) => writes_answer(&found.levels.writes),
-        None => Answer::Yes,
-    }
-}
-
-/// The answer for read committed, which holds if nothing was found on it.
-fn committed_of(weaker: &Option<Weaker>) -> Answer
-    ensures { result ≡ option_map_or (λ w. committed_answer w.levels.committed) weaker.now Yes }
-{
-    match weaker {
-        Some(found) => committed_answer(&found.levels.committed),
-        None => Answer::Yes,
-    }
-}
-
-/// The answer for snapshot isolation, which holds if nothing was found on it.
-fn snapshot_of(weaker: &Option<Weaker>) -> Answer
-    ensures { result ≡ option_map_or (λ w. snapshot_answer w.levels.snapshot) weaker.now Yes }
-{
-    match weaker {
-        Some(found) => snapshot_answer(&found.levels.snapshot),
-        None => Answer::Yes,
+        Some(other) => other,
+        None => finding,
     }
 }
 
@@ -216,18 +173,15 @@ pub fn check_levels(
 {
     let finding = finding_of(alloc, clients, strict)?;
     let untimed = untimed_of(alloc, clients, &finding, strict)?;
-    let ordered = has_order(&finding, &untimed);
+    let ordered = is_serial(serial_finding(&finding, &untimed));
     let weaker = weaker_of(alloc, clients, ordered, &finding)?;
-    let anomalies = anomalies_seen(alloc, clients, &finding, &weaker)?;
-    let orders = orders_of(alloc, clients, strict, &finding, &weaker)?;
-    let serial_above = breaks_serial(&finding, &untimed);
     Ok(LevelFindings {
+        serial_above: breaks_serial(&finding, &untimed),
+        anomalies: anomalies_of(alloc, clients, &finding, &weaker)?,
+        orders: orders_of(alloc, clients, strict, &finding, &weaker)?,
         finding,
-        serial_above,
         untimed,
         weaker,
-        orders,
-        anomalies,
     })
 }
 
@@ -243,25 +197,6 @@ fn orders_of(
         return Ok(None);
     }
     Ok(Some(kept_orders(alloc, clients, finding, weaker)?))
-}
-
-/// The anomalies that are counted, unless there is a serial order. If the finding is a cycle, no read has a fault.
-fn anomalies_seen(
-    alloc: Global,
-    clients: &Clients,
-    finding: &Finding,
-    weaker: &Option<Weaker>,
-) -> Result<Vec<Seen>, NoMemory> {
-    let Some(weaker) = weaker else {
-        return Ok(Vec::new(alloc));
-    };
-    anomalies_of(
-        alloc,
-        clients.transactions.as_slice(),
-        clients.keys.len(),
-        matches!(finding, Finding::Cycle(..)),
-        &weaker.levels.committed,
-    )
 }
 
 /// Checks what clients saw, strictly or not.
@@ -289,16 +224,6 @@ fn untimed_of(
         return Ok(None);
     }
     Ok(Some(check_clients(alloc, clients)?))
-}
-
-/// Whether there is a serial order.
-fn has_order(finding: &Finding, untimed: &Option<Finding>) -> bool
-    ensures { result ≡ is_order (serial_finding finding.now untimed.now) }
-{
-    match untimed {
-        Some(other) => is_serial(other),
-        None => is_serial(finding),
-    }
 }
 
 /// What is found of the levels below serializable, unless there is a serial order.

@@ -1,16 +1,16 @@
 //! Lost updates: two transactions read one version of a key, and then append to it.
 
 use crate::anomalies::{Example, Seen};
-use sgt_appends::{Operation, Status, Transaction, has, read_of};
+use sgt_appends::{Operation, Status, Transaction, append_at, has, read_of};
 use sgt_levels::{Ground, Tie};
 use sgt_model::NoMemory;
 use std::alloc::Global;
 use std::collections::BTreeMap;
 
-/// What a transaction does first to a key.
+/// What the last transaction that used a key did first to it.
 #[derive(Clone, Copy)]
 struct First {
-    transaction: usize,
+    transaction: Option<usize>,
     /// The position of its read, unless it appends to the key before it reads it, or has been counted.
     read: Option<usize>,
 }
@@ -29,8 +29,8 @@ type Version = (u32, usize, u64);
 /// What the search has noted.
 #[derive(Drop)]
 struct Updates {
-    /// For each key what the last transaction that used it did first.
-    firsts: Vec<Option<First>>,
+    /// Of each key.
+    firsts: Vec<First>,
     /// For each version the first transaction that updated it.
     updated: BTreeMap<Version, Update>,
     count: usize,
@@ -44,51 +44,41 @@ pub(crate) fn lost_updates(
     history: &[Transaction],
     keys: usize,
 ) -> Result<Option<Seen>, NoMemory> {
+    let unused = First {
+        transaction: None,
+        read: None,
+    };
     let mut updates = Updates {
-        firsts: none_used(alloc, keys)?,
+        firsts: Vec::new(alloc),
         updated: BTreeMap::new(alloc),
         count: 0,
         lost: None,
     };
+    updates.firsts.resize(keys, unused)?;
     for (number, transaction) in history.iter().enumerate() {
         if transaction.status == Status::Committed {
             updates.add(history, transaction.operations.as_slice(), number)?;
         }
     }
-    match updates.lost {
-        Some((one, other)) => Ok(Some(Seen {
+    Ok(
+        updates.lost.map(|(one, other)| Seen {
             name: "lost-update",
             count: updates.count,
             first: Example::Update {
                 one: tie_of(one, other),
                 other: tie_of(other, one),
             },
-        })),
-        None => Ok(None),
-    }
+        }),
+    )
 }
 
 /// Whether the read of the one has what the other appends.
 fn sees(history: &[Transaction], one: Update, other: Update) -> bool {
-    let Some(read) = read_of(history, one.transaction, one.read) else {
-        return false;
-    };
-    let Some(transaction) = history.get(other.transaction) else {
-        return false;
-    };
-    match transaction.operations.get(other.append) {
-        Some(Operation::Append { value, .. }) => has(read.seen, *value),
+    let read = read_of(history, one.transaction, one.read);
+    match (read, append_at(history, other.transaction, other.append)) {
+        (Some(read), Some((_, value))) => has(read.seen, value),
         _ => false,
     }
-}
-
-/// A list in which no key is used.
-fn none_used(alloc: Global, keys: usize) -> Result<Vec<Option<First>>, NoMemory> {
-    let mut firsts = Vec::with_capacity(alloc, keys)?;
-    for _ in 0..keys {
-        firsts.push(None)?;
-    }
-    Ok(firsts)
 }
 
 /// The tie from the one to the other: it missed what the other appends, and both append to the key.
@@ -115,9 +105,12 @@ impl Updates {
     ) -> Result<(), NoMemory> {
         for (position, operation) in operations.iter().enumerate() {
             match operation {
-                Operation::Read { key, .. } => self.read(*key, number, position),
+                Operation::Read { key, .. } => {
+                    self.first(*key, number, Some(position));
+                }
                 Operation::Append { key, .. } => {
-                    if let Some(read) = self.append(*key, number) {
+                    let first = self.first(*key, number, None);
+                    if let Some(read) = first.and_then(|first| first.read.take()) {
                         let update = Update {
                             transaction: number,
                             read,
@@ -131,40 +124,17 @@ impl Updates {
         Ok(())
     }
 
-    /// Notes that the transaction reads the key, if it is the first time that it uses it.
-    fn read(&mut self, key: u32, number: usize, position: usize) {
-        self.use_first(key, number, Some(position));
-    }
-
-    /// The read of the key before the first append of the transaction to it, if that is what comes now.
-    fn append(&mut self, key: u32, number: usize) -> Option<usize> {
-        self.use_first(key, number, None);
+    /// What the transaction does first to the key. If this is the first time that it uses the key, it is by this read, or by
+    /// an append.
+    fn first(&mut self, key: u32, number: usize, read: Option<usize>) -> Option<&mut First> {
         let first = self.firsts.get_mut(key as usize)?;
-        let read = match first {
-            Some(used) => used.read,
-            None => None,
-        };
-        *first = Some(First {
-            transaction: number,
-            read: None,
-        });
-        read
-    }
-
-    /// Notes what the transaction does first to the key, if this is the first time that it uses it.
-    fn use_first(&mut self, key: u32, number: usize, read: Option<usize>) {
-        if let Some(first) = self.firsts.get_mut(key as usize) {
-            let is_used = match first {
-                Some(used) => used.transaction == number,
-                None => false,
+        if first.transaction != Some(number) {
+            *first = First {
+                transaction: Some(number),
+                read,
             };
-            if !is_used {
-                *first = Some(First {
-                    transaction: number,
-                    read,
-                });
-            }
         }
+        Some(first)
     }
 
     /// Counts the update, if an earlier transaction has updated the version, and neither read has what one of the two appends.
@@ -175,10 +145,7 @@ impl Updates {
         if sees(history, update, update) {
             return Ok(());
         }
-        let last = match read.seen.last() {
-            Some(value) => *value,
-            None => 0,
-        };
+        let last = read.seen.last().copied().unwrap_or(0);
         let version = (read.key, read.seen.len(), last);
         let Some(before) = self.updated.get(&version).copied() else {
             self.updated.insert(version, update)?;
@@ -188,9 +155,7 @@ impl Updates {
             return Ok(());
         }
         self.count = self.count.saturating_add(1);
-        if self.lost.is_none() {
-            self.lost = Some((before, update));
-        }
+        self.lost = self.lost.or(Some((before, update)));
         Ok(())
     }
 }

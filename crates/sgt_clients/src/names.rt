@@ -21,39 +21,23 @@ pub(crate) fn name_text(anomaly: Anomaly) -> &'static str {
     }
 }
 
-/// The name of the anomaly whose cycle has steps of real time.
-fn strict_name_text(anomaly: Anomaly) -> &'static str {
-    match anomaly {
-        Anomaly::G0 => "G0-realtime",
-        Anomaly::G1c => "G1c-realtime",
-        Anomaly::GSingle => "G-single-realtime",
-        Anomaly::G2Item => "G2-item-realtime",
-        _ => name_text(anomaly),
-    }
-}
-
-/// The name of a cycle of these steps, of which two or more may be by a missed append.
+/// The name of a cycle of these steps, of which two or more may be by a missed append, and some of real time.
 pub(crate) fn cycle_name(anomaly: Anomaly, steps: &[Passage]) -> &'static str {
-    match anomaly {
-        Anomaly::G2Item if !misses_in_a_row(steps) => "G-nonadjacent",
+    let is_apart = anomaly == Anomaly::G2Item && !misses_in_a_row(steps);
+    match (anomaly, has_times(steps)) {
+        (_, true) if is_apart => "G-nonadjacent-realtime",
+        (_, false) if is_apart => "G-nonadjacent",
+        (Anomaly::G0, true) => "G0-realtime",
+        (Anomaly::G1c, true) => "G1c-realtime",
+        (Anomaly::GSingle, true) => "G-single-realtime",
+        (Anomaly::G2Item, true) => "G2-item-realtime",
         _ => name_text(anomaly),
-    }
-}
-
-/// The name of a cycle of these steps, some of which are of real time.
-pub(crate) fn strict_cycle_name(anomaly: Anomaly, steps: &[Passage]) -> &'static str {
-    match anomaly {
-        Anomaly::G2Item if !misses_in_a_row(steps) => "G-nonadjacent-realtime",
-        _ => strict_name_text(anomaly),
     }
 }
 
 /// Whether two steps in a row are by a missed append. The first step comes after the last.
 fn misses_in_a_row(steps: &[Passage]) -> bool {
-    let mut before = match steps.last() {
-        Some(step) => is_miss(step),
-        None => false,
-    };
+    let mut before = steps.last().is_some_and(|step| is_miss(step));
     for step in steps {
         let miss = is_miss(step);
         if before && miss {
@@ -167,21 +151,15 @@ fn any_seen(ties: &[Tie]) -> bool {
 pub(crate) fn snapshot_name(history: &[Transaction], snapshot: &Snapshot) -> &'static str {
     match snapshot {
         Snapshot::Cycle(ties) if is_lost_update(history, ties.as_slice()) => "lost-update",
-        Snapshot::Cycle(ties) if misses(ties.as_slice()) < 2 => "G-single",
+        Snapshot::Cycle(ties) if ties.iter().filter(|tie| misses(tie)).count() < 2 => "G-single",
         Snapshot::Cycle(_) => "G-nonadjacent",
         Snapshot::Run(_) | Snapshot::NotCommitted | Snapshot::Open => "",
     }
 }
 
-/// How many of the ties are by a value that was missed.
-fn misses(ties: &[Tie]) -> usize {
-    let mut count = 0_usize;
-    for tie in ties {
-        if matches!(tie.ground, Ground::Observed(Reason::Missed { .. })) {
-            count = count.saturating_add(1);
-        }
-    }
-    count
+/// Whether the tie is by a value that was missed.
+fn misses(tie: &Tie) -> bool {
+    matches!(tie.ground, Ground::Observed(Reason::Missed { .. }))
 }
 
 /// Whether two transactions append to one key, and one of them missed what the other appended there.
@@ -200,13 +178,9 @@ fn loses(history: &[Transaction], one: &Tie, other: &Tie) -> bool {
             Ground::Observed(Reason::InOrder { first, .. }) | Ground::Late { first, .. },
             Ground::Observed(Reason::Missed { append, .. }),
         ) => {
-            match (
-                append_at(history, one.from, first),
-                append_at(history, other.to, append),
-            ) {
-                (Some((key, _)), Some((missed, _))) => key == missed,
-                _ => false,
-            }
+            let one = append_at(history, one.from, first).map(|(key, _)| key);
+            let other = append_at(history, other.to, append).map(|(key, _)| key);
+            one.is_some() && one == other
         }
         _ => false,
     }

@@ -30,20 +30,15 @@ impl Notes {
 
     /// What is taken for something else of what clients saw.
     pub(crate) fn of(clients: &Clients) -> Self {
-        let first = match clients.alone.first() {
-            Some(first) if clients.invoked => first.line,
-            _ => {
-                return Notes {
-                    nulls: clients.nulls,
-                    alone: 0,
-                    line: 0,
-                };
-            }
+        let alone = if clients.invoked {
+            clients.alone.as_slice()
+        } else {
+            &[]
         };
         Notes {
             nulls: clients.nulls,
-            alone: clients.alone.len(),
-            line: first,
+            alone: alone.len(),
+            line: alone.first().map_or(0, |first| first.line),
         }
     }
 
@@ -86,16 +81,14 @@ pub(crate) fn nulls_in(tree: &Value, kind: Kind) -> usize {
     let Kind::Ended(Status::Committed) = kind else {
         return 0;
     };
-    let Some(value) = tree.get("value") else {
-        return 0;
-    };
-    let mut nulls = 0usize;
-    for operation in items(value).unwrap_or(&[]) {
-        if is_null_read(operation) {
-            nulls = nulls.saturating_add(1);
-        }
-    }
-    nulls
+    let operations = tree
+        .get("value")
+        .and_then(|value| items(value))
+        .unwrap_or(&[]);
+    operations
+        .iter()
+        .filter(|operation| is_null_read(operation))
+        .count()
 }
 
 /// Whether an operation is a read of null.

@@ -1,8 +1,8 @@
 //! The operations of an entry.
-ghost use Rattle.std.specs.Prelude.{◌≡◌, ◌<◌, ◌+◌, ◌^◌, ◌++◌, ℕ, List, Some, map, length, option_map, slice_get, IfOk, IfSome, OnOk, [], ◌∷◌, codes};
+ghost use Rattle.std.specs.Prelude.{◌≡◌, ◌<◌, ◌+◌, ◌^◌, ◌++◌, ℕ, List, Some, map, length, option_map, slice_get, IfOk, IfSome, OnOk, [], ◌∷◌};
 ghost use Rattle.serde_json.specs.View.{view};
 ghost use Rattle.sgt_notation.specs.Numbering.{KnowsItems, texts_of};
-ghost use Rattle.sgt_clients.specs.Entries.{name_text, Names, whole_in, some_whole, SpellEachValue, SpellsValues, SpellsOperation, counted, SpellAll, SpellsAs};
+ghost use Rattle.sgt_clients.specs.Entries.{name_text, Names, whole_in, some_whole, SpellEachValue, SpellsValues, SpellsOperation, counted, SpellAll};
 
 use crate::access::{Access, access_of};
 use crate::fault::{Flaw, ReadError};
@@ -87,55 +87,22 @@ fn read_operation(
     ensures more { OnOk result ((more : List (List ℕ)) × (texts_of keys.new ≡ texts_of keys.old ++ more)) }
     ensures spelled { IfOk result (SpellsOperation (texts_of keys.new) (view item.now)) }
 {
-    let Some(parts) = items(item) else {
-        return Err(ReadError::Flaw(Flaw::Operation(place.saturating_add(1))));
-    };
-    match parts {
-        [word, key, argument] => match word.as_str() {
-            Some("append") => read_append(alloc, keys, place, key, argument),
-            Some("r") => read_read(alloc, keys, place, key, argument),
+    match items(item) {
+        Some([word, key, argument]) => match word.as_str() {
+            Some("append") => {
+                let key = read_key(alloc, keys, place, key)?;
+                let value = read_number(place, argument)?;
+                Ok(Operation::Append { key, value })
+            }
+            Some("r") => {
+                let key = read_key(alloc, keys, place, key)?;
+                let values = read_seen(alloc, place, argument)?;
+                Ok(Operation::Read { key, values })
+            }
             _ => Err(ReadError::Flaw(Flaw::Operation(place.saturating_add(1)))),
         },
         _ => Err(ReadError::Flaw(Flaw::Operation(place.saturating_add(1)))),
     }
-}
-
-/// Reads an append.
-fn read_append(
-    alloc: Global,
-    keys: &mut Items,
-    place: usize,
-    key: &Value,
-    argument: &Value,
-) -> Result<Operation, ReadError>
-    requires { KnowsItems keys.old }
-    ensures known { OnOk result (KnowsItems keys.new) }
-    ensures more { OnOk result ((more : List (List ℕ)) × (texts_of keys.new ≡ texts_of keys.old ++ more)) }
-    ensures spelled { IfOk result (SpellsAs (texts_of keys.new) (codes "append") (view key.now) (view argument.now)) }
-{
-    let key = read_key(alloc, keys, place, key)?;
-    match number_of(argument) {
-        Some(value) => Ok(Operation::Append { key, value }),
-        None => Err(ReadError::Flaw(Flaw::Number(place.saturating_add(1)))),
-    }
-}
-
-/// Reads a read.
-fn read_read(
-    alloc: Global,
-    keys: &mut Items,
-    place: usize,
-    key: &Value,
-    argument: &Value,
-) -> Result<Operation, ReadError>
-    requires { KnowsItems keys.old }
-    ensures known { OnOk result (KnowsItems keys.new) }
-    ensures more { OnOk result ((more : List (List ℕ)) × (texts_of keys.new ≡ texts_of keys.old ++ more)) }
-    ensures spelled { IfOk result (SpellsAs (texts_of keys.new) (codes "r") (view key.now) (view argument.now)) }
-{
-    let key = read_key(alloc, keys, place, key)?;
-    let values = read_seen(alloc, place, argument)?;
-    Ok(Operation::Read { key, values })
 }
 
 /// Reads what a read saw: a list of values, or `null` for the empty list.
@@ -157,10 +124,7 @@ fn read_values(alloc: Global, place: usize, items: &[Value]) -> Result<Vec<u64>,
 {
     let mut values = reserved(alloc, items.len())?;
     for item in items {
-        let Some(value) = number_of(item) else {
-            return Err(ReadError::Flaw(Flaw::Number(place.saturating_add(1))));
-        };
-        push(&mut values, value)?;
+        push(&mut values, read_number(place, item)?)?;
     }
     Ok(values)
 }
@@ -180,14 +144,12 @@ fn push(values: &mut Vec<u64>, value: u64) -> Result<(), NoMemory>
 }
 
 /// The value that the tree spells, a whole number of at most 15 digits, as it is stored: by its bits.
-fn number_of(tree: &Value) -> Option<u64>
-    ensures { IfSome result (λ value. whole_in (view tree.now) ≡ some_whole value) }
+fn read_number(place: usize, tree: &Value) -> Result<u64, ReadError>
+    ensures { IfOk result (λ value. whole_in (view tree.now) ≡ some_whole value) }
 {
-    let number = tree.as_i64()?;
-    if is_value(number) {
-        Some(number.cast_unsigned())
-    } else {
-        None
+    match tree.as_i64() {
+        Some(number) if is_value(number) => Ok(number.cast_unsigned()),
+        _ => Err(ReadError::Flaw(Flaw::Number(place.saturating_add(1)))),
     }
 }
 
@@ -202,13 +164,8 @@ fn read_key(alloc: Global, keys: &mut Items, place: usize, tree: &Value) -> Resu
         return Err(ReadError::Flaw(Flaw::TooManyKeys));
     }
     match tree {
-        Value::String(text) => {
-            let text = text.as_bytes();
-            if !is_key(text) {
-                return Err(ReadError::Flaw(Flaw::Key(place.saturating_add(1))));
-            }
-            Ok(keys.number(alloc, text)?)
-        }
+        Value::String(text) if is_key(text.as_bytes()) => Ok(keys.number(alloc, text.as_bytes())?),
+        Value::String(_) => Err(ReadError::Flaw(Flaw::Key(place.saturating_add(1)))),
         _ => match whole_name(alloc, keys, tree)? {
             Some(key) => Ok(key),
             None => Err(ReadError::Flaw(Flaw::Key(place.saturating_add(1)))),
@@ -241,26 +198,17 @@ fn whole_text(alloc: Global, tree: &Value) -> Result<Option<Vec<u8>>, NoMemory>
     let mut text = Vec::new(alloc);
     if let Some(number) = tree.as_u64() {
         append_number(&mut text, number)?;
-        return Ok(Some(text));
-    }
-    let Some(number) = tree.as_i64() else {
+    } else if let Some(number) = tree.as_i64() {
+        append_number(&mut text, number)?;
+    } else {
         return Ok(None);
-    };
-    append_number(&mut text, number)?;
+    }
     Ok(Some(text))
 }
 
 /// Whether the text may be that of a key.
 fn is_key(text: &[u8]) -> bool {
-    if text.is_empty() || text.len() > LONGEST_KEY {
-        return false;
-    }
-    for byte in text {
-        if !is_key_byte(*byte) {
-            return false;
-        }
-    }
-    true
+    !text.is_empty() && text.len() <= LONGEST_KEY && text.iter().all(|byte| is_key_byte(*byte))
 }
 
 /// Whether a key may contain the byte.

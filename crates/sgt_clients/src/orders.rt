@@ -2,11 +2,12 @@
 //!
 //! That a run is one of snapshots is proved. That it keeps the order, and that a cycle leaves none, is tested.
 
-use crate::barriers::{Pairs, has_committed, pairs_in_time, pairs_of_processes, process_of};
+use crate::barriers::{pairs_in_time, pairs_of_processes, process_of};
 use crate::clients::{Clients, Event, Span};
 use crate::finding::{Finding, is_serial};
 use crate::level_findings::Weaker;
 use crate::names::breaks_strong;
+use crate::strict::{ended_before, is_committed};
 use sgt_levels::{Ordered, Passage, Snapshot, Snapshots, ordered_run};
 use sgt_model::NoMemory;
 use std::alloc::Global;
@@ -59,7 +60,7 @@ pub(crate) fn kept_orders(
             session: Kept::Implied,
         });
     }
-    if has_no_snapshots(weaker) {
+    if weaker.as_ref().is_some_and(has_no_snapshots) {
         return Ok(KeptOrders {
             strong: Kept::NotSnapshot,
             strong_above: false,
@@ -79,32 +80,34 @@ pub(crate) fn kept_orders(
 }
 
 /// Whether there is certainly no snapshot run.
-fn has_no_snapshots(weaker: &Option<Weaker>) -> bool {
-    match weaker {
-        Some(weaker) => matches!(
-            &weaker.levels.snapshot,
-            Snapshot::NotCommitted | Snapshot::Cycle(_)
-        ),
-        None => false,
-    }
+fn has_no_snapshots(weaker: &Weaker) -> bool {
+    matches!(
+        &weaker.levels.snapshot,
+        Snapshot::NotCommitted | Snapshot::Cycle(_)
+    )
 }
 
 /// Whether there is a snapshot run that keeps the order.
 fn answer_for(alloc: Global, clients: &Clients, kind: Kind) -> Result<Kept, NoMemory> {
-    let pairs = pairs_of(alloc, clients, kind)?;
+    let pairs = match kind {
+        Kind::RealTime => pairs_in_time(alloc, clients)?,
+        Kind::Process => pairs_of_processes(alloc, clients)?,
+    };
     match ordered_run(alloc, clients.transactions.as_slice(), pairs.all())? {
         Ordered::Run(run) => {
-            if keeps(alloc, clients, &run, kind)? {
-                return Ok(Kept::Run(run));
-            }
-            Ok(Kept::Open)
+            let is_kept = match kind {
+                Kind::RealTime => keeps_time(alloc, clients.spans.as_slice(), &run)?,
+                Kind::Process => keeps_processes(alloc, clients, &run)?,
+            };
+            Ok(if is_kept { Kept::Run(run) } else { Kept::Open })
         }
         Ordered::Cycle(passages) => {
             let merged = merged(alloc, passages.as_slice())?;
-            if all_hold(clients, merged.as_slice(), kind) {
-                return Ok(Kept::Cycle(merged));
-            }
-            Ok(Kept::Open)
+            Ok(if all_hold(clients, merged.as_slice(), kind) {
+                Kept::Cycle(merged)
+            } else {
+                Kept::Open
+            })
         }
         Ordered::Open => Ok(Kept::Open),
     }
@@ -114,34 +117,12 @@ fn answer_for(alloc: Global, clients: &Clients, kind: Kind) -> Result<Kept, NoMe
 fn merged(alloc: Global, passages: &[Passage]) -> Result<Vec<Passage>, NoMemory> {
     let mut merged: Vec<Passage> = Vec::with_capacity(alloc, passages.len())?;
     for passage in passages {
-        let goes_on = match merged.last() {
-            Some(before) => before.why.is_none() && passage.why.is_none(),
-            None => false,
-        };
-        let last = merged.len().saturating_sub(1);
-        if !goes_on {
-            merged.push(*passage)?;
-        } else if let Some(before) = merged.get_mut(last) {
-            before.to = passage.to;
+        match merged.last_mut() {
+            Some(before) if before.why.is_none() && passage.why.is_none() => before.to = passage.to,
+            _ => merged.push(*passage)?,
         }
     }
     Ok(merged)
-}
-
-/// The pairs of the order.
-fn pairs_of(alloc: Global, clients: &Clients, kind: Kind) -> Result<Pairs, NoMemory> {
-    match kind {
-        Kind::RealTime => pairs_in_time(alloc, clients),
-        Kind::Process => pairs_of_processes(alloc, clients),
-    }
-}
-
-/// Whether each transaction of the run begins after those have committed that come before it.
-fn keeps(alloc: Global, clients: &Clients, run: &Snapshots, kind: Kind) -> Result<bool, NoMemory> {
-    match kind {
-        Kind::RealTime => keeps_time(alloc, clients.spans.as_slice(), run),
-        Kind::Process => keeps_processes(alloc, clients, run),
-    }
 }
 
 /// Whether none that commits after the start of a transaction had ended when that began.
@@ -151,10 +132,11 @@ fn keeps_time(alloc: Global, spans: &[Span], run: &Snapshots) -> Result<bool, No
         let (Some(start), Some(span)) = (run.starts.get(place), spans.get(*number)) else {
             return Ok(false);
         };
-        let Some(ended) = soonest.get(soonest.len().saturating_sub(*start).saturating_sub(1)) else {
-            return Ok(false);
-        };
-        if *ended < span.began {
+        let from_there = soonest.len().saturating_sub(*start).saturating_sub(1);
+        if !soonest
+            .get(from_there)
+            .is_some_and(|ended| *ended >= span.began)
+        {
             return Ok(false);
         }
     }
@@ -188,8 +170,10 @@ fn keeps_processes(alloc: Global, clients: &Clients, run: &Snapshots) -> Result<
             },
             Event::Began(number) => {
                 let before = last.get(&process_of(clients, number)).copied();
-                if !begins_after(run, places.get(&number).copied(), before) {
-                    return Ok(false);
+                if let (Some(place), Some(before)) = (places.get(&number).copied(), before) {
+                    if !run.starts.get(place).is_some_and(|start| before < *start) {
+                        return Ok(false);
+                    }
                 }
             }
         }
@@ -197,36 +181,17 @@ fn keeps_processes(alloc: Global, clients: &Clients, run: &Snapshots) -> Result<
     Ok(true)
 }
 
-/// Whether the transaction at the place begins after the one at the other place has committed, if there are both.
-fn begins_after(run: &Snapshots, place: Option<usize>, before: Option<usize>) -> bool {
-    let (Some(place), Some(before)) = (place, before) else {
-        return true;
-    };
-    match run.starts.get(place) {
-        Some(start) => before < *start,
-        None => false,
-    }
-}
-
 /// Whether each passage without a ground leads from a transaction that committed to one that comes after it in the order.
 fn all_hold(clients: &Clients, passages: &[Passage], kind: Kind) -> bool {
-    for passage in passages {
-        if passage.why.is_none() && !comes_before(clients, passage.from, passage.to, kind) {
-            return false;
-        }
-    }
-    true
+    passages.iter().all(|passage| {
+        passage.why.is_some() || comes_before(clients, passage.from, passage.to, kind)
+    })
 }
 
 /// Whether the one committed and had ended when the other one began; in the order of processes, of the same process.
 fn comes_before(clients: &Clients, from: usize, to: usize, kind: Kind) -> bool {
-    let (Some(first), Some(second)) = (clients.spans.get(from), clients.spans.get(to)) else {
-        return false;
-    };
-    let has_ended = match first.ended {
-        Some(ended) => ended < second.began,
-        None => false,
-    };
     let is_ordered = kind == Kind::RealTime || process_of(clients, from) == process_of(clients, to);
-    has_ended && is_ordered && has_committed(clients, from)
+    is_ordered
+        && ended_before(clients.spans.as_slice(), from, to)
+        && is_committed(clients.transactions.as_slice(), from)
 }

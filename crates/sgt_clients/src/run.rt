@@ -188,24 +188,8 @@ fn own(error: ClientsFault) -> ClientsFault
     ensures { IsOwn result }
 {
     match error {
-        ClientsFault::Entry(line, entry, flaw) => ClientsFault::Entry(line, entry, flaw),
-        ClientsFault::Hinted(line, entry, flaw, hint) => {
-            ClientsFault::Hinted(line, entry, flaw, hint)
-        }
-        ClientsFault::Twice(second, value, key, first) => {
-            ClientsFault::Twice(second, value, key, first)
-        }
-        ClientsFault::Unasked(second, value, key, first) => {
-            ClientsFault::Unasked(second, value, key, first)
-        }
-        ClientsFault::Early(second, value, key, first) => {
-            ClientsFault::Early(second, value, key, first)
-        }
-        ClientsFault::NoOperations => ClientsFault::NoOperations,
-        ClientsFault::OnlySkipped(count) => ClientsFault::OnlySkipped(count),
-        ClientsFault::NoInvocations => ClientsFault::NoInvocations,
-        ClientsFault::Undecided => ClientsFault::Undecided,
         ClientsFault::Check(_) => ClientsFault::Check(CheckFault::NoMemory),
+        other => other,
     }
 }
 

@@ -14,7 +14,7 @@ use crate::barriers::pairs_in_time;
 use crate::clients::{Clients, Span};
 use crate::fault::ClientsFault;
 use crate::finding::{Finding, check_clients};
-use crate::names::strict_cycle_name;
+use crate::names::cycle_name;
 use sgt_appends::{
     Edge, Proposal, Status, Transaction, Witness, all_hold, appends_once, is_serial_run, name_of,
     propose,
@@ -128,59 +128,41 @@ fn cycle_finding(
         return Err(ClientsFault::Undecided);
     }
     let witness = Witness::Cycle(observed_of(alloc, edges, history.len())?);
-    let name = strict_cycle_name(name_of(&witness), steps.as_slice());
+    let name = cycle_name(name_of(&witness), steps.as_slice());
     Ok(Finding::Cycle(steps, name))
 }
 
 /// The edges between transactions of the clients.
 fn observed_of(alloc: Global, edges: &[Edge], number: usize) -> Result<Vec<Edge>, NoMemory> {
-    let mut observed = Vec::new(alloc);
-    for edge in edges {
-        if edge.from < number && edge.to < number {
-            observed.push(*edge)?;
-        }
-    }
-    Ok(observed)
+    let observed = edges
+        .iter()
+        .copied()
+        .filter(|edge| edge.from < number && edge.to < number);
+    Ok(observed.collect(alloc)?)
 }
 
-/// The steps between transactions of the clients.
+/// The steps between transactions of the clients, each from the one that was left last. One from a barrier has no ground.
 fn steps_of(alloc: Global, edges: &[Edge], number: usize) -> Result<Vec<Passage>, NoMemory> {
-    let mut steps = Vec::new(alloc);
-    let mut left = last_left(edges, number);
+    let mut steps = Vec::with_capacity(alloc, edges.len())?;
+    let mut left = edges
+        .iter()
+        .rev()
+        .find(|edge| edge.from < number)
+        .map_or(0, |edge| edge.from);
     for edge in edges {
-        if edge.from < number {
+        let is_observed = edge.from < number;
+        if is_observed {
             left = edge.from;
         }
         if edge.to < number {
-            steps.push(step_of(edge, left, number))?;
+            steps.push(Passage {
+                from: left,
+                to: edge.to,
+                why: is_observed.then_some(Ground::Observed(edge.reason)),
+            })?;
         }
     }
     Ok(steps)
-}
-
-/// The step to the end of the edge, which leads from a barrier or not, from the transaction that was left last.
-fn step_of(edge: &Edge, left: usize, number: usize) -> Passage {
-    let why = if edge.from < number {
-        Some(Ground::Observed(edge.reason))
-    } else {
-        None
-    };
-    Passage {
-        from: left,
-        to: edge.to,
-        why,
-    }
-}
-
-/// The transaction of the clients that the edges leave last.
-fn last_left(edges: &[Edge], number: usize) -> usize {
-    let mut left = 0;
-    for edge in edges {
-        if edge.from < number {
-            left = edge.from;
-        }
-    }
-    left
 }
 
 /// Whether the steps are a cycle, and each holds.
@@ -224,7 +206,7 @@ fn holds(history: &[Transaction], spans: &[Span], step: &Passage) -> bool
 }
 
 /// Whether the transaction committed.
-fn is_committed(history: &[Transaction], number: usize) -> bool
+pub(crate) fn is_committed(history: &[Transaction], number: usize) -> bool
     ensures { IsTrue result → Ended history.now number Committed }
 {
     match history.get(number) {
@@ -234,7 +216,7 @@ fn is_committed(history: &[Transaction], number: usize) -> bool
 }
 
 /// Whether the first transaction ended before the second began.
-fn ended_before(spans: &[Span], first: usize, second: usize) -> bool
+pub(crate) fn ended_before(spans: &[Span], first: usize, second: usize) -> bool
     ensures { IsTrue result → EndedBefore spans.now first second }
 {
     let (Some(first), Some(second)) = (spans.get(first), spans.get(second)) else {

@@ -10,44 +10,40 @@ use sgt_notation::Shown;
 use std::alloc::Global;
 use std::collections::BTreeMap;
 
-/// An append of a value that its key has already.
-#[derive(Clone, Copy)]
-struct Again {
-    key: u32,
-    value: u64,
-    /// The transaction that appends the value first.
-    first: usize,
-}
-
 /// The fault of the first append of a value that its key has already.
 pub(crate) fn twice_fault(alloc: Global, clients: &Clients) -> Result<ClientsFault, NoMemory> {
     let mut met = BTreeMap::new(alloc);
     for (number, transaction) in clients.transactions.iter().enumerate() {
-        if let Some(again) = first_met(&mut met, number, transaction.operations.as_slice())? {
-            return again_fault(alloc, clients, number, again);
+        for operation in &transaction.operations {
+            if let Operation::Append { key, value } = *operation {
+                if let Some(first) = met.insert((key, value), number)? {
+                    let key = shown_name(alloc, clients.keys.as_slice(), key)?;
+                    return Ok(again_fault(clients, value.cast_signed(), key, first, number));
+                }
+            }
         }
     }
     Ok(ClientsFault::Undecided)
 }
 
-/// The fault of the transaction, which appends a value again.
+/// The fault of the second transaction, which appends the value to the key again after the first.
 fn again_fault(
-    alloc: Global,
     clients: &Clients,
-    number: usize,
-    again: Again,
-) -> Result<ClientsFault, NoMemory> {
-    let second = position_of(clients, number);
-    let value = again.value.cast_signed();
-    let key = shown_name(alloc, clients.keys.as_slice(), again.key)?;
-    let first = position_of(clients, again.first);
-    if again.first != number && is_unasked(clients, number) {
-        return Ok(ClientsFault::Unasked(second, value, key, first));
+    value: i64,
+    key: Shown,
+    first: usize,
+    second: usize,
+) -> ClientsFault {
+    let is_other = first != second;
+    let from = position_of(clients, first);
+    let to = position_of(clients, second);
+    if is_other && is_unasked(clients, second) {
+        ClientsFault::Unasked(to, value, key, from)
+    } else if is_other && is_early(clients, first, second) {
+        ClientsFault::Early(to, value, key, from)
+    } else {
+        ClientsFault::Twice(to, value, key, from)
     }
-    if again.first != number && is_early(clients, again.first, number) {
-        return Ok(ClientsFault::Early(second, value, key, first));
-    }
-    Ok(ClientsFault::Twice(second, value, key, first))
 }
 
 /// Whether the first is an end without an invocation, and the second one an invocation of its process.
@@ -59,35 +55,11 @@ fn is_early(clients: &Clients, first: usize, second: usize) -> bool {
 
 /// Whether others have an invocation, and the transaction has none.
 fn is_unasked(clients: &Clients, number: usize) -> bool {
-    if !clients.invoked {
-        return false;
-    }
-    for alone in &clients.alone {
-        if alone.transaction == number {
-            return true;
-        }
-    }
-    false
-}
-
-/// The first append of these operations of the transaction that is met again. The others are met now.
-fn first_met(
-    met: &mut BTreeMap<(u32, u64), usize>,
-    number: usize,
-    operations: &[Operation],
-) -> Result<Option<Again>, NoMemory> {
-    for operation in operations {
-        if let Operation::Append { key, value } = operation {
-            if let Some(first) = met.insert((*key, *value), number)? {
-                return Ok(Some(Again {
-                    key: *key,
-                    value: *value,
-                    first,
-                }));
-            }
-        }
-    }
-    Ok(None)
+    clients.invoked
+        && clients
+            .alone
+            .iter()
+            .any(|alone| alone.transaction == number)
 }
 
 /// The position of the entry at which the transaction ended, or else of the one at which it began.
@@ -102,8 +74,10 @@ fn position_of(clients: &Clients, number: usize) -> Position {
 
 /// The text of the key or process with this number, among these.
 pub(crate) fn shown_name(alloc: Global, names: &[Vec<u8>], number: u32) -> Result<Shown, NoMemory> {
-    match names.get(number as usize) {
-        Some(name) => Shown::of(alloc, name.as_slice()),
-        None => Shown::of(alloc, b""),
-    }
+    Shown::of(
+        alloc,
+        names
+            .get(number as usize)
+            .map_or(b"", |name| name.as_slice()),
+    )
 }

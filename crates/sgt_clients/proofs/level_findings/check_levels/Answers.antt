@@ -1,4 +1,5 @@
-use Rattle.std.proofs.Common.{◌∙◌, sym}
+use Rattle.std.proofs.Common.{◌∙◌, sym, ap}
+use Rattle.sgt_clients.specs.Findings.{is_order}
 use Rattle.sgt_clients.proofs.level_findings.check_levels.Goals as goal
 
 pub returns : goal.returns
@@ -8,5 +9,5 @@ returns c = record {
   timed = c.in_ok-untimed.ensures.none;
   weaker = c.in_ok-weaker.ensures.right;
   unseen = c.in_ok-weaker.ensures.unseen;
-  implied = λ none. sym c.has_order-ordered.ensures ∙ c.in_ok-weaker.ensures.none none;
+  implied = λ none. ap is_order (sym c.serial_finding.ensures) ∙ sym c.is_serial-ordered.ensures ∙ c.in_ok-weaker.ensures.none none;
 }

@@ -11,5 +11,5 @@ returns-clause-stored c =
     subst (λ n. Stores c.note_end.new.self (ended c.args.status n (begun c.args.status c.args.entry.operations p)))
     (number ∙ ap length was.transactions)
     (more (begun c.args.status c.args.entry.operations p) (c.in_ok-add.ensures.stored p
-    (c.in_ok-note_alone.ensures.stored p (c.in_ok-note_owner.ensures.stored p was)))))
+    (c.in_ok-note_alone.ensures.stored p was))))
     c.note_end.ensures.stored

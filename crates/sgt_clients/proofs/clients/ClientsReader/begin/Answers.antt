@@ -10,4 +10,4 @@ returns-clause-stored c = λ p was.
     subst (λ n. Stores c.note_active.new.self (with_active c.args.entry.process (record { transaction = n; accesses = c.args.entry.accesses })
     (begun Unknown c.args.entry.operations p)))
     (number ∙ ap length was.transactions)
-    (c.in_ok-note_active.ensures.stored (begun Unknown c.args.entry.operations p) (c.in_ok-add.ensures.stored p (c.in_ok-note_owner.ensures.stored p was)))
+    (c.in_ok-note_active.ensures.stored (begun Unknown c.args.entry.operations p) (c.in_ok-add.ensures.stored p was))
