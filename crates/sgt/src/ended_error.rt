@@ -1,6 +1,6 @@
 //! Where an operation stands that comes after the end of its transaction.
 
-use crate::operation_error::{first_word, separates_words};
+use crate::operation_error::{separates_words, transaction_of};
 use sgt_input::Source;
 use sgt_line_errors::Remembering;
 
@@ -13,16 +13,14 @@ pub(crate) struct LateOperation<'a> {
     /// The column of its word, in bytes from 1.
     pub column: usize,
     pub word: &'a [u8],
-    /// The letter of the end, and its position among the operations from 1.
-    pub letter: u8,
-    pub place: usize,
+    pub end: End,
 }
 
 /// The end of a transaction: its letter, and its position among the operations from 1.
 #[derive(Clone, Copy)]
-struct End {
-    letter: u8,
-    place: usize,
+pub(crate) struct End {
+    pub letter: &'static str,
+    pub place: usize,
 }
 
 /// What a search has passed.
@@ -59,23 +57,15 @@ pub(crate) fn late_operation<S: Source>(
 impl Search {
     /// Passes a line, up to an operation after the end of the transaction.
     fn late_in<'a>(&mut self, line: &'a [u8]) -> Option<LateOperation<'a>> {
-        let mut next = 0;
-        for at in 0..line.len() {
-            if line[at] == b'#' {
-                return None;
-            }
-            if at >= next && !separates_words(line[at]) {
-                let word = first_word(&line[at..]);
-                next = at.saturating_add(word.len());
+        let text = line.split(|byte| *byte == b'#').next()?;
+        let mut column = 1usize;
+        for word in text.split(|byte| separates_words(*byte)) {
+            if !word.is_empty() {
                 if let Some(end) = self.pass(word) {
-                    return Some(LateOperation {
-                        column: at.saturating_add(1),
-                        word,
-                        letter: end.letter,
-                        place: end.place,
-                    });
+                    return Some(LateOperation { column, word, end });
                 }
             }
+            column = column.saturating_add(word.len()).saturating_add(1);
         }
         None
     }
@@ -89,25 +79,15 @@ impl Search {
         if self.end.is_some() {
             return self.end;
         }
-        if let Some(letter @ (b'c' | b'a')) = word.first().copied() {
-            self.end = Some(End {
-                letter,
-                place: self.count,
-            });
-        }
+        let letter = match word.first()? {
+            b'c' => "c",
+            b'a' => "a",
+            _ => return None,
+        };
+        self.end = Some(End {
+            letter,
+            place: self.count,
+        });
         None
     }
-}
-
-/// The transaction of an operation.
-fn transaction_of(word: &[u8]) -> u64 {
-    let mut number = 0u64;
-    for at in 1..word.len() {
-        if !word[at].is_ascii_digit() {
-            return number;
-        }
-        let digit = u64::from(word[at].saturating_sub(b'0'));
-        number = number.saturating_mul(10).saturating_add(digit);
-    }
-    number
 }

@@ -1,197 +1,161 @@
-//! How a run fails: its error, and what a second line says about it.
+//! What is said about the error that ends a run.
 
-use crate::advice::advise;
 use crate::ended_error::late_operation;
 use crate::input::is_folder;
-use crate::operation_error::{WordError, index_of, word_at, word_error};
+use crate::operation_error::{WordError, first_word, index_of, word_error};
 use sgt_check::CheckFault;
 use sgt_clients::{ClientsFault, Flaw, Hint};
 use sgt_input::{Fault, MOST_BYTES, Source};
 use sgt_line_errors::{Command, Remembering, diagnose};
 use sgt_notation::{NotationFault, Shown};
 use std::alloc::Global;
-use std::fmt::{self, Display, Formatter};
 use std::rt::Files;
+use thiserror::Error;
 
-/// An error of a run, and what is said about it.
-#[derive(Drop)]
-pub(crate) enum Failure<F: Display + Drop> {
-    /// Nobody reads standard output any more. Nothing is said.
-    Unread,
-    /// This error, and what a second line says about it.
-    Fault(F, Detail),
-}
-
-/// What a second line says about an error.
-#[derive(Drop)]
+/// What is said about an error.
+#[derive(Debug, Drop, Error)]
 pub(crate) enum Detail {
-    /// There is no second line.
+    /// Nobody reads standard output any more. Nothing is said, and the error is not reported either.
+    #[error("")]
+    Unread,
+    /// Nothing.
+    #[error("")]
     Nothing,
+    /// A hint, on the line of the error. All else is a second line.
+    #[error("{0}")]
+    Hint(&'static str),
     /// These words.
+    #[error("{0}")]
     Words(&'static str),
-    /// The input has more bytes than this.
-    TooLong(usize),
+    /// The input has more bytes than this, and how it can have more.
+    #[error("an input has at most {0} bytes: {1}split it, and begin the next part with the record lines of the one before (--records, --json)")]
+    TooLong(usize, &'static str),
     /// These words, about what stands at this column, in bytes from 1.
+    #[error("column {0}: {1}")]
     At(usize, &'static str),
     /// At this column stands the character of this number, which is not ASCII.
+    #[error("column {0}: U+{1:04X} is not ASCII")]
     Foreign(usize, u32),
     /// The operation at this column comes after the end of its transaction: its letter, its number, and its position.
+    #[error("column {0}: {1} comes after {2}{3} ({4}); {ends}", ends = ENDS_ARE_LAST)]
     Late(usize, Shown, &'static str, u32, usize),
-    /// What is said about what clients saw.
-    Entry(Hint),
     /// This text.
+    #[error("{0}")]
     Text(String),
 }
 
-impl Display for Detail {
-    fn fmt<W: fmt::Write>(&self, f: &mut Formatter<W>) -> fmt::Result {
-        match self {
-            Detail::Nothing => Ok(()),
-            Detail::Words(words) => f.write_str(words),
-            Detail::TooLong(most) => {
-                let more = if *most < MOST_BYTES {
-                    "take more with --most, or "
-                } else {
-                    ""
-                };
-                write!(
-                    f,
-                    "an input has at most {most} bytes: {more}split it, and begin the next part with the record lines of the one before (--records, --json)"
-                )
-            }
-            Detail::At(column, words) => write!(f, "column {column}: {words}"),
-            Detail::Foreign(column, code) => {
-                write!(f, "column {column}: U+")?;
-                write_code(f, *code)?;
-                f.write_str(" is not ASCII")
-            }
-            Detail::Late(column, word, letter, transaction, place) => write!(
-                f,
-                "column {column}: {word} comes after {letter}{transaction} ({place}); {ENDS_ARE_LAST}"
-            ),
-            Detail::Entry(hint) => write!(f, "{hint}"),
-            Detail::Text(text) => f.write_str(text.as_str()),
-        }
+impl From<Option<String>> for Detail {
+    fn from(text: Option<String>) -> Self {
+        text.map_or(Detail::Nothing, Detail::Text)
     }
 }
 
 /// What holds of the end of a transaction.
 const ENDS_ARE_LAST: &str = "the commit or abort of a transaction is its last operation";
 
-/// The digits of a number in base 16.
-const DIGITS: [&str; 16] = [
-    "0", "1", "2", "3", "4", "5", "6", "7", "8", "9", "A", "B", "C", "D", "E", "F",
-];
+/// The hint for what clients saw that is read as text.
+const IS_JSON: &str = "; JSON and EDN are read with --model list-append";
 
-/// Writes the number of a character, in base 16 with at least four digits.
-fn write_code<W: fmt::Write>(f: &mut Formatter<W>, code: u32) -> fmt::Result {
-    if code >= 0x10_0000 {
-        f.write_str(digit(code, 0x10_0000))?;
-    }
-    if code >= 0x1_0000 {
-        f.write_str(digit(code, 0x1_0000))?;
-    }
-    f.write_str(digit(code, 0x1000))?;
-    f.write_str(digit(code, 0x100))?;
-    f.write_str(digit(code, 0x10))?;
-    f.write_str(digit(code, 1))
+/// The hint for a script or a bank that is read as a history.
+const IS_SCRIPT: &str =
+    "; sgt script --history or sgt bank --history writes the history of such an input";
+
+/// The hint for text that is read as what clients saw.
+const IS_TEXT: &str = "; text like r1[x] is read without --model list-append";
+
+/// The hint for what is no JSON and starts with a comment.
+const IS_COMMENTED: &str =
+    "; JSON has no comments, and text like r1[x] is read without --model list-append";
+
+/// What line 1 of a script or a bank has.
+const LIMITS: &[u8] = b"\"limits\"";
+
+/// What is said about an input with more bytes than this.
+pub(crate) fn too_long(most: usize) -> Detail {
+    let more = if most < MOST_BYTES {
+        "take more with --most, or "
+    } else {
+        ""
+    };
+    Detail::TooLong(most, more)
 }
 
-/// The digit of a number at this unit, in base 16.
-fn digit(code: u32, unit: u32) -> &'static str {
-    let place = code.checked_div(unit).unwrap_or(0) % 16;
-    DIGITS.get(place as usize).copied().unwrap_or("0")
+/// What is said about a failed read of a file, or of standard input.
+pub(crate) fn unread_detail<R: Files>(rt: &R, file: Option<&str>) -> Detail {
+    if file.is_none() && is_folder(rt) {
+        Detail::Words("standard input is a directory")
+    } else {
+        Detail::Nothing
+    }
 }
 
-/// The failure of a script or a bank that read at most `most` bytes: from a file, or from standard input. Its fault is
-/// about this line, if it is about one.
-pub(crate) fn failure_of<R: Files>(
-    rt: &R,
+/// What is said about a fault of a script or a bank, which is about this line, if it is about one.
+pub(crate) fn fault_detail(
     alloc: Global,
     command: Command,
     line: Option<&[u8]>,
-    file: Option<&str>,
-    most: usize,
-    fault: Fault,
-) -> Failure<Fault> {
-    let detail = match fault {
-        Fault::Reading => unread_detail(rt, file),
-        Fault::TooLong => Detail::TooLong(most),
-        _ => match explained(alloc, command, line, &fault) {
-            Some(text) => Detail::Text(text),
-            None => words_or_nothing(advise(&fault)),
-        },
-    };
-    Failure::Fault(fault, detail)
+    fault: &Fault,
+) -> Detail {
+    match fault {
+        Fault::TooManyJobs => Detail::Words(
+            "a bank has at most 1000000 jobs: split it, and begin the next part with the record lines of the one before (--records, --json)",
+        ),
+        Fault::Spawn => Detail::Words(
+            "each worker is a thread, and the system did not start so many: take fewer with --workers",
+        ),
+        _ => Detail::from(explained(alloc, command, line, fault)),
+    }
 }
 
 /// What is wrong with the line that a fault is about. None if the fault's own line says all, or if memory ran out.
-fn explained(
+pub(crate) fn explained(
     alloc: Global,
     command: Command,
     line: Option<&[u8]>,
     fault: &Fault,
 ) -> Option<String> {
-    match diagnose(alloc, fault, command, line?) {
-        Ok(text) => text,
-        Err(_) => None,
-    }
+    diagnose(alloc, fault, command, line?).ok()?
 }
 
-/// The failure of a check that read from this source: from a file, or from standard input.
-pub(crate) fn check_failure<R: Files, S: Source>(
-    rt: &R,
+/// What is said about the fault of a check that read from this source.
+pub(crate) fn check_detail<S: Source>(
     alloc: Global,
     source: &Remembering<S>,
-    file: Option<&str>,
-    fault: CheckFault,
-) -> Failure<CheckFault> {
-    let detail = match &fault {
-        CheckFault::Reading => unread_detail(rt, file),
+    fault: &CheckFault,
+) -> Detail {
+    match fault {
         CheckFault::NoOperations => Detail::Words(
             "a history has operations: r1[x], w1[x], c1 or a1",
         ),
-        CheckFault::TooLong => Detail::Words("a history has at most 268435456 bytes"),
-        CheckFault::Notation(fault) => notation_detail(alloc, source, fault),
-        CheckFault::Writing | CheckFault::NoMemory => Detail::Nothing,
-    };
-    Failure::Fault(fault, detail)
-}
-
-/// The failure of a check of what clients saw, which read from this source: from a file, or from standard input.
-pub(crate) fn clients_failure<R: Files, S: Source>(
-    rt: &R,
-    alloc: Global,
-    source: &Remembering<S>,
-    file: Option<&str>,
-    fault: ClientsFault,
-) -> Failure<ClientsFault> {
-    match fault {
-        ClientsFault::Hinted(line, entry, flaw, hint) => Failure::Fault(
-            ClientsFault::Entry(line, entry, flaw),
-            Detail::Entry(hint),
-        ),
-        other => unhinted_failure(rt, alloc, source, file, other),
+        CheckFault::TooLong => Detail::Words(LONG_HISTORY),
+        CheckFault::Notation(NotationFault::NoOperation(line, word)) => {
+            operation_detail(source, *line, word)
+        }
+        CheckFault::Notation(NotationFault::Ended(line, transaction)) => {
+            late_detail(alloc, source, *line, *transaction)
+        }
+        _ => Detail::Nothing,
     }
 }
 
-/// The same of an error that has no hint.
-fn unhinted_failure<R: Files, S: Source>(
-    rt: &R,
+/// What is said about the fault of a check of what clients saw, which read from this source.
+pub(crate) fn clients_detail<S: Source>(
     alloc: Global,
     source: &Remembering<S>,
-    file: Option<&str>,
-    fault: ClientsFault,
-) -> Failure<ClientsFault> {
-    let detail = match &fault {
-        ClientsFault::Check(CheckFault::Reading) => unread_detail(rt, file),
+    fault: &ClientsFault,
+) -> Detail {
+    match fault {
+        ClientsFault::Hinted(_, _, _, Hint::History) => Detail::Hint(IS_TEXT),
+        ClientsFault::Hinted(_, _, _, hint) => Detail::from(format!(in alloc; "{hint}").ok()),
+        ClientsFault::Entry(_, 1, Flaw::NoObject) if matches!(source.line(1), Some([b'#', ..])) => {
+            Detail::Hint(IS_COMMENTED)
+        }
         ClientsFault::Entry(line, _, Flaw::NotJson(column)) => match source.line(*line) {
             Some(line) => not_json_detail(alloc, line, *column),
             None => Detail::Nothing,
         },
-        other => words_or_nothing(words_about(other)),
-    };
-    Failure::Fault(fault, detail)
+        _ => words_about(fault),
+    }
 }
 
 /// What is said about a line of what clients saw that is not JSON from this column on.
@@ -199,41 +163,36 @@ fn not_json_detail(alloc: Global, line: &[u8], column: usize) -> Detail {
     if let Some(words) = json_hint(line, column) {
         return Detail::Words(words);
     }
-    let Some(text) = explained(alloc, Command::Script, Some(line), &Fault::NotJson(2)) else {
-        return Detail::Nothing;
-    };
-    let Ok(place) = format!(in alloc; "column {column}") else {
-        return Detail::Nothing;
-    };
-    let is_object = line.trim_ascii_start().starts_with(b"{");
-    match text.as_str().split_once(": not JSON from here: ") {
-        Some((before, words)) if is_object && before == place.as_str() => {
-            match String::from_str(alloc, words) {
-                Ok(words) => Detail::Text(words),
-                Err(_) => Detail::Nothing,
-            }
-        }
-        _ => Detail::Nothing,
+    Detail::from(bracket_hint(alloc, line, column))
+}
+
+/// What is wrong with the brackets of a line that is an object, and not JSON from this column on.
+fn bracket_hint(alloc: Global, line: &[u8], column: usize) -> Option<String> {
+    let text = explained(alloc, Command::Script, Some(line), &Fault::NotJson(2))?;
+    let place = format!(in alloc; "column {column}").ok()?;
+    let (before, words) = text.as_str().split_once(": not JSON from here: ")?;
+    if !line.trim_ascii_start().starts_with(b"{") || before != place.as_str() {
+        return None;
     }
+    String::from_str(alloc, words).ok()
 }
 
 /// What is said about an error of what clients saw, whatever its input is.
-fn words_about(fault: &ClientsFault) -> Option<&'static str> {
-    match fault {
-        ClientsFault::Check(CheckFault::TooLong) => Some("a history has at most 268435456 bytes"),
-        ClientsFault::OnlySkipped(_) => Some(
-            "an entry of a transaction has \"f\":\"txn\", or no f",
-        ),
-        ClientsFault::Twice(..) => Some(APPENDED_ONCE),
-        ClientsFault::Early(..) => Some(INVOKED_FIRST),
-        ClientsFault::Entry(_, _, Flaw::OtherOperations(..)) => Some(SAME_OPERATIONS),
+fn words_about(fault: &ClientsFault) -> Detail {
+    Detail::Words(match fault {
+        ClientsFault::Check(CheckFault::TooLong) => LONG_HISTORY,
+        ClientsFault::OnlySkipped(_) => "an entry of a transaction has \"f\":\"txn\", or no f",
+        ClientsFault::Twice(..) => APPENDED_ONCE,
+        ClientsFault::Early(..) => INVOKED_FIRST,
+        ClientsFault::Entry(_, _, Flaw::OtherOperations(..)) => SAME_OPERATIONS,
         ClientsFault::NoOperations
-        | ClientsFault::Entry(_, _, Flaw::NoObject | Flaw::Value | Flaw::Operation(_)) => Some(
-            AN_ENTRY,
-        ),
-        _ => None,
-    }
+        | ClientsFault::Entry(_, _, Flaw::NoObject | Flaw::Value | Flaw::Operation(_)) => AN_ENTRY,
+        _ => return Detail::Nothing,
+    })
 }
+
+/// How long a history may be.
+const LONG_HISTORY: &str = "a history has at most 268435456 bytes";
 
 /// What holds of the values that clients append.
 const APPENDED_ONCE: &str =
@@ -305,32 +264,21 @@ fn is_torn(bytes: &[u8]) -> bool {
 
 /// The small letters with which these bytes start.
 fn letters_of(bytes: &[u8]) -> &[u8] {
-    for at in 0..bytes.len() {
-        if !bytes[at].is_ascii_lowercase() {
-            return &bytes[..at];
-        }
-    }
-    bytes
-}
-
-/// What is said about an error of a history.
-fn notation_detail<S: Source>(
-    alloc: Global,
-    source: &Remembering<S>,
-    fault: &NotationFault,
-) -> Detail {
-    match fault {
-        NotationFault::NoOperation(line, word) => operation_detail(source, *line, word),
-        NotationFault::Ended(line, transaction) => late_detail(alloc, source, *line, *transaction),
-        NotationFault::NoMemory => Detail::Nothing,
+    match bytes.iter().position(|byte| !byte.is_ascii_lowercase()) {
+        Some(at) => &bytes[..at],
+        None => bytes,
     }
 }
 
 /// What is said about a word of this line that spells no operation.
 fn operation_detail<S: Source>(source: &Remembering<S>, line: u64, word: &Shown) -> Detail {
     let bytes = source.line(line).unwrap_or(b"");
+    if line == 1 && matches!(word.text.as_slice(), [b'{' | b'[', ..]) {
+        let is_script = bytes.windows(8).any(|part| part == LIMITS);
+        return Detail::Hint(if is_script { IS_SCRIPT } else { IS_JSON });
+    }
     match index_of(bytes, word) {
-        Some(index) => match word_error(word_at(bytes, index)) {
+        Some(index) => match word_error(first_word(bytes.get(index..).unwrap_or(b""))) {
             WordError::Words(at, words) => Detail::At(column_of(index, at), words),
             WordError::Foreign(at, code) => Detail::Foreign(column_of(index, at), code),
         },
@@ -356,26 +304,14 @@ fn late_detail<S: Source>(
     let Some(late) = late_operation(source, line, transaction) else {
         return Detail::Words(ENDS_ARE_LAST);
     };
-    let letter = if late.letter == b'c' { "c" } else { "a" };
     match Shown::of(alloc, late.word) {
-        Ok(word) => Detail::Late(late.column, word, letter, transaction, late.place),
+        Ok(word) => Detail::Late(
+            late.column,
+            word,
+            late.end.letter,
+            transaction,
+            late.end.place,
+        ),
         Err(_) => Detail::Words(ENDS_ARE_LAST),
-    }
-}
-
-/// What is said about a failed read of a file, or of standard input.
-fn unread_detail<R: Files>(rt: &R, file: Option<&str>) -> Detail {
-    if file.is_none() && is_folder(rt) {
-        Detail::Words("standard input is a directory")
-    } else {
-        Detail::Nothing
-    }
-}
-
-/// These words, if there are any.
-fn words_or_nothing(words: Option<&'static str>) -> Detail {
-    match words {
-        Some(words) => Detail::Words(words),
-        None => Detail::Nothing,
     }
 }

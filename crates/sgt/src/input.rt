@@ -1,10 +1,10 @@
 //! The input of a run: standard input, or a file that an argument names.
 
 use clap::ArgMatches;
-use std::fmt::{self, Display, Formatter};
 use std::fs::{File, OpenFile};
 use std::io::{self, ErrorKind, Input, Read};
 use std::rt::Files;
+use thiserror::Error;
 
 /// The name of the argument that names a file.
 pub(crate) const FILE: &str = "file";
@@ -49,41 +49,37 @@ impl<I: Read + Drop, F: Read + OpenFile + Drop> InputBytes<I, F> {
     }
 }
 
-/// Why a file is not read.
-#[derive(Clone, Copy)]
+/// Why a file is not read. Lines are counted from 1.
+#[derive(Clone, Copy, Debug, Error)]
 pub(crate) enum FileFlaw {
-    /// There is no file with this name.
+    #[error("no such file")]
     Missing,
-    /// It is a directory.
+    #[error("it is a directory")]
     Directory,
-    /// It may not be read.
+    #[error("no permission")]
     Forbidden,
-    /// It cannot be opened.
+    #[error("it cannot be opened")]
     Closed,
+    #[error("reading failed")]
+    Reading,
+    #[error("it has more than 65536 bytes")]
+    TooLong,
+    /// The line gives no code words.
+    #[error("line {0}: expected [procedure,code,\"words\"], as [5,10,\"too little money\"]; the words have 1 to 200 bytes")]
+    BadLine(usize),
+    /// The line gives words to this procedure's code, which has some.
+    #[error("line {0}: code {2} of procedure {1} has words already")]
+    Twice(usize, u16, u16),
+    #[error("no memory")]
+    NoMemory,
 }
 
 /// A file that is not read.
-#[derive(Drop)]
+#[derive(Clone, Copy, Debug, Error)]
+#[error("cannot read {name}: {flaw}")]
 pub(crate) struct FileFault<'a> {
-    name: &'a str,
-    flaw: FileFlaw,
-}
-
-impl Display for FileFlaw {
-    fn fmt<W: fmt::Write>(&self, f: &mut Formatter<W>) -> fmt::Result {
-        f.write_str(match self {
-            FileFlaw::Missing => "no such file",
-            FileFlaw::Directory => "it is a directory",
-            FileFlaw::Forbidden => "no permission",
-            FileFlaw::Closed => "it cannot be opened",
-        })
-    }
-}
-
-impl Display for FileFault<'_> {
-    fn fmt<W: fmt::Write>(&self, f: &mut Formatter<W>) -> fmt::Result {
-        write!(f, "cannot read {}: {}", self.name, self.flaw)
-    }
+    pub name: &'a str,
+    pub flaw: FileFlaw,
 }
 
 /// The file with this name, or standard input if there is none.

@@ -15,17 +15,14 @@
 //! `sgt_line_errors` explains a faulty line.
 #![tactic(auto)]
 
-mod advice;
 mod codes;
 mod ended_error;
 mod failure;
 mod help;
 mod input;
-mod input_kind;
 mod number_error;
 mod operation_error;
 mod output;
-mod unjudged;
 mod words;
 
 ghost use Rattle.std.specs.Prelude.{◌≤◌};
@@ -33,33 +30,27 @@ ghost use Rattle.std.specs.Prelude.{◌≤◌};
 use clap::builder::ValueParser;
 use clap::error::ErrorKind;
 use clap::{Arg, ArgAction, ArgMatches, Command};
-use failure::{Detail, Failure, check_failure, clients_failure, failure_of};
+use failure::{Detail, check_detail, clients_detail, fault_detail, too_long, unread_detail};
 use help::{BANK_HELP, CHECK_HELP, HELP, SCRIPT_HELP};
 use input::{FILE, named_file, open_input};
-use input_kind::{comment_of, kind_of};
 use number_error::number_error;
-use output::{OutputBytes, write_failure};
+use output::{OutputBytes, write_detail};
 use sgt_bank::{Explanations, MOST_TRIES, MOST_WORKERS, run_bank};
 use sgt_check::{CheckFault, Verdict, run_check};
-use sgt_clients::{
-    Answer, ClientsFault, ClientsOutput, Flaw as EntryFlaw, Hint, Level, Notes, Question,
-    run_clients,
-};
-use sgt_input::{DEFAULT_BYTES, Fault, MOST_BYTES, Reader, Sink, Source, Writer};
+use sgt_clients::{Answer, ClientsFault, ClientsOutput, Level, Notes, Question, run_clients};
+use sgt_input::{DEFAULT_BYTES, Fault, MOST_BYTES, Reader, Writer};
 use sgt_line_errors::Remembering;
-use sgt_notation::NotationFault;
 use sgt_script::Output;
 use std::alloc::{AllocError, Global};
 use std::env;
 use std::fmt::Display;
-use std::io::{self, Eprint, Input, IsTerminal, Print, Read, Stderr};
+use std::io::{self, Eprint, Input, IsTerminal, Print, Read, Stderr, Write};
 use std::process::ExitCode;
 use std::rt::Files;
 use std::sync::Wait;
 use std::thread::Threads;
 use std::time::Clock;
-use unjudged::active_ones;
-use words::{GivenWords, Unsaid, WORDS, read_words};
+use words::{GivenWords, WORDS, read_words};
 
 const VERSION: &str = "0.1.0";
 
@@ -69,39 +60,8 @@ const WORKERS: &str = "4";
 /// The default number of tries of a job, as `clap` takes it.
 const TRIES: &str = "100";
 
-/// The message for arguments that are not UTF-8, as `clap` would write it.
-const NO_TEXT: &str = "error: invalid UTF-8 was detected in one or more arguments
-
-Usage: sgt <COMMAND>
-
-For more information, try '--help'.";
-
-/// The message for options that only one model has, as `clap` would write it.
-const NEEDS_MODEL: &str =
-    "error: the options '--strict', '--level' and '--json' need '--model list-append'
-
-Usage: sgt check [OPTIONS] [FILE]
-
-For more information, try '--help'.";
-
-/// The message for an option that only a picture has, as `clap` would write it.
-const NEEDS_TIMELINE: &str = "error: the option '--all' needs '--timeline'
-
-Usage: sgt check [OPTIONS] [FILE]
-
-For more information, try '--help'.";
-
-/// The message for the name that workers often have, as `clap` would write it.
-const NO_THREADS: &str = "error: unexpected argument '--threads' found
-
-  tip: a similar argument exists: '--workers'
-
-Usage: sgt bank --workers <workers> [FILE]
-
-For more information, try '--help'.";
-
-/// The hint for text that is read as what clients saw.
-const IS_TEXT: &str = "; text like r1[x] is read without --model list-append";
+/// How `sgt check` is called, as `clap` says it.
+const CHECK_USAGE: &str = "check [OPTIONS] [FILE]";
 
 /// What a person reads who types the input.
 const TYPED: &str = "reading standard input; ^D ends";
@@ -114,33 +74,23 @@ struct Streams {
     is_typed: bool,
 }
 
-/// An option without a value.
-fn flag<'a>(alloc: Global, name: &'a str, help: &'a str) -> Arg<'a> {
-    Arg::new(alloc, name)
-        .long(name)
-        .help(help)
-        .action(ArgAction::SetTrue)
+/// An option with this name and this help.
+fn option<'a>(alloc: Global, name: &'a str, help: &'a str) -> Arg<'a> {
+    Arg::new(alloc, name).long(name).help(help)
 }
 
 /// How many bytes an input may have by default, as `clap` takes it.
 const MOST: &str = "16777216";
 
-/// The option that says how many bytes an input may have.
-fn most_option<'a>(alloc: Global) -> Arg<'a> {
-    Arg::new(alloc, "most")
-        .long("most")
-        .help("How many bytes the input may have, up to 4294967296")
-        .value_parser(ValueParser::unsigned(1, MOST_BYTES as u64))
-        .default_value(MOST)
-}
-
 /// The option that names the file of words.
 fn words_option<'a>(alloc: Global) -> Result<Arg<'a>, AllocError> {
-    Arg::new(alloc, WORDS)
-        .long(WORDS)
-        .value_name("FILE")
-        .help("A file that says what your codes mean, for --explain")
-        .requires_arg("explain")
+    option(
+        alloc,
+        WORDS,
+        "A file that says what your codes mean, for --explain",
+    )
+    .value_name("FILE")
+    .requires_arg("explain")
 }
 
 /// An option that takes a number from 1 to `most`.
@@ -148,21 +98,33 @@ fn number_option<'a>(
     alloc: Global,
     name: &'a str,
     help: &'a str,
-    most: u32,
+    most: u64,
     default: &'a str,
 ) -> Arg<'a> {
-    Arg::new(alloc, name)
-        .long(name)
-        .help(help)
-        .value_parser(ValueParser::unsigned(1, u64::from(most)))
+    option(alloc, name, help)
+        .value_parser(ValueParser::unsigned(1, most))
         .default_value(default)
+}
+
+/// The option that says how many bytes an input may have.
+fn most_option<'a>(alloc: Global) -> Arg<'a> {
+    number_option(
+        alloc,
+        "most",
+        "How many bytes the input may have, up to 4294967296",
+        MOST_BYTES as u64,
+        MOST,
+    )
 }
 
 /// The help of an option that both runs have.
 const NO_PROGRESS: &str = "Does not say that on a terminal either";
 
-/// The options of a run, each with those before it that it excludes.
-const RUN_OPTIONS: [(&str, &[&str]); 6] = [
+/// An option without a value, and those before it that it excludes.
+type Flag = (&'static str, &'static [&'static str]);
+
+/// The options of a run without a value.
+const RUN_FLAGS: [Flag; 6] = [
     ("history", &[]),
     ("records", &["history"]),
     ("explain", &["history", "records"]),
@@ -171,31 +133,20 @@ const RUN_OPTIONS: [(&str, &[&str]); 6] = [
     ("no-progress", &["progress"]),
 ];
 
-/// An option that excludes others.
-fn excluding_option<'a>(
-    alloc: Global,
-    name: &'a str,
-    help: &'a str,
-    others: &[&'a str],
-) -> Result<Arg<'a>, AllocError> {
-    let mut option = flag(alloc, name, help);
-    for other in others {
-        option = option.conflicts_with(*other)?;
-    }
-    Ok(option)
-}
-
-/// Adds the options of a run, with their help texts.
-fn add_run_options<'a>(
+/// Adds options without a value, with their help texts, and after `--explain` the option of its words.
+fn add_flags<'a>(
     alloc: Global,
     options: &mut Vec<Arg<'a>>,
-    helps: [&'a str; 6],
+    flags: &[Flag],
+    helps: &[&'static str],
 ) -> Result<(), AllocError> {
-    options.push(most_option(alloc))?;
-    for place in 0..RUN_OPTIONS.len() {
-        let (name, others) = RUN_OPTIONS[place];
-        options.push(excluding_option(alloc, name, helps[place], others)?)?;
-        if name == "explain" {
+    for ((name, others), help) in flags.iter().zip(helps) {
+        let mut flag = option(alloc, *name, *help).action(ArgAction::SetTrue);
+        for other in *others {
+            flag = flag.conflicts_with(*other)?;
+        }
+        options.push(flag)?;
+        if *name == "explain" {
             options.push(words_option(alloc)?)?;
         }
     }
@@ -205,10 +156,12 @@ fn add_run_options<'a>(
 /// The options of `sgt script`.
 fn script_options<'a>(alloc: Global) -> Result<Vec<Arg<'a>>, AllocError> {
     let mut options = Vec::new(alloc);
-    add_run_options(
+    options.push(most_option(alloc))?;
+    add_flags(
         alloc,
         &mut options,
-        [
+        &RUN_FLAGS,
+        &[
             "Writes the run as a history for 'sgt check', instead of the replies",
             "Writes the committed database as records, instead of the replies",
             "Explains on standard error aborts, commits that wait and refused events",
@@ -227,20 +180,22 @@ fn bank_options<'a>(alloc: Global) -> Result<Vec<Arg<'a>>, AllocError> {
         alloc,
         "workers",
         "How many jobs run at the same time, from 1 to 16",
-        MOST_WORKERS,
+        u64::from(MOST_WORKERS),
         WORKERS,
     ))?;
     options.push(number_option(
         alloc,
         "tries",
         "How often a job is tried at most, from 1 to 1000",
-        MOST_TRIES,
+        u64::from(MOST_TRIES),
         TRIES,
     ))?;
-    add_run_options(
+    options.push(most_option(alloc))?;
+    add_flags(
         alloc,
         &mut options,
-        [
+        &RUN_FLAGS,
+        &[
             "Writes the run as a history for 'sgt check', instead of the outcomes",
             "Writes the committed database as records, instead of the outcomes",
             "Reports on standard error how the jobs ended, and why",
@@ -257,12 +212,25 @@ const MODELS: [&str; 2] = ["operations", "list-append"];
 
 /// The option that names the model of a history.
 fn model_option<'a>(alloc: Global) -> Arg<'a> {
-    Arg::new(alloc, "model")
-        .long("model")
-        .help("The model of the history: operations or list-append")
-        .value_parser(ValueParser::Names(&MODELS))
+    names_option(
+        alloc,
+        "model",
+        "The model of the history: operations or list-append",
+        &MODELS,
+    )
+    .default_value("operations")
+}
+
+/// An option that takes one of these names.
+fn names_option<'a>(
+    alloc: Global,
+    name: &'a str,
+    help: &'a str,
+    names: &'static [&'static str],
+) -> Arg<'a> {
+    option(alloc, name, help)
+        .value_parser(ValueParser::Names(names))
         .hide_possible_values(true)
-        .default_value("operations")
 }
 
 /// The levels of isolation.
@@ -274,19 +242,8 @@ const LEVELS: [&str; 5] = [
     "strict-serializable",
 ];
 
-/// The option that names the level whose answer is the exit status.
-fn level_option<'a>(alloc: Global) -> Arg<'a> {
-    Arg::new(alloc, "level")
-        .long("level")
-        .help(
-            "The level that the exit status is of: read-uncommitted, read-committed,\nsnapshot-isolation, serializable or strict-serializable (list-append only)",
-        )
-        .value_parser(ValueParser::Names(&LEVELS))
-        .hide_possible_values(true)
-}
-
-/// The options of `sgt check` without a value, each with those before it that it excludes.
-const CHECK_OPTIONS: [(&str, &[&str]); 5] = [
+/// The options of `sgt check` without a value.
+const CHECK_FLAGS: [Flag; 5] = [
     ("graph", &[]),
     ("timeline", &["graph"]),
     ("all", &[]),
@@ -294,26 +251,14 @@ const CHECK_OPTIONS: [(&str, &[&str]); 5] = [
     ("strict", &[]),
 ];
 
-/// Adds these options, with their help texts.
-fn add_check_options<'a>(
-    alloc: Global,
-    options: &mut Vec<Arg<'a>>,
-    helps: [&'a str; 5],
-) -> Result<(), AllocError> {
-    for place in 0..CHECK_OPTIONS.len() {
-        let (name, others) = CHECK_OPTIONS[place];
-        options.push(excluding_option(alloc, name, helps[place], others)?)?;
-    }
-    Ok(())
-}
-
 /// The options of `sgt check`.
 fn check_options<'a>(alloc: Global) -> Result<Vec<Arg<'a>>, AllocError> {
     let mut options = Vec::new(alloc);
-    add_check_options(
+    add_flags(
         alloc,
         &mut options,
-        [
+        &CHECK_FLAGS,
+        &[
             "Writes the serialization graph in DOT, instead of the report",
             "Writes a picture of the history in SVG, instead of the report",
             "Draws up to 400 operations of a history, not 60 (--timeline only)",
@@ -321,80 +266,65 @@ fn check_options<'a>(alloc: Global) -> Result<Vec<Arg<'a>>, AllocError> {
             "The serial order has to keep real time (list-append only)",
         ],
     )?;
-    options.push(level_option(alloc))?;
+    options.push(names_option(
+        alloc,
+        "level",
+        "The level that the exit status is of: read-uncommitted, read-committed,\nsnapshot-isolation, serializable or strict-serializable (list-append only)",
+        &LEVELS,
+    ))?;
     options.push(model_option(alloc))?;
     Ok(options)
 }
 
-/// The argument that names a file to read in place of standard input.
-fn file_argument<'a>(alloc: Global) -> Arg<'a> {
-    Arg::new(alloc, FILE).value_name("FILE").help(
-        "The file to read, in place of standard input; - is standard input",
-    )
-}
+/// The subcommands of `sgt` that run on an input: of each the name, what it does, and the rest of its help.
+const COMMANDS: [(&str, &str, &str); 3] = [
+    (
+        "script",
+        "Runs a script of events, as lines of JSON, and answers each",
+        SCRIPT_HELP,
+    ),
+    (
+        "bank",
+        "Runs jobs, as lines of JSON, on worker threads",
+        BANK_HELP,
+    ),
+    (
+        "check",
+        "Checks whether a history is serializable, recoverable, and more",
+        CHECK_HELP,
+    ),
+];
 
-/// A subcommand of `sgt`, with its options. Each may name the file that it reads.
+/// A subcommand of `sgt`, with its options. Each may name a file to read in place of standard input.
 fn subcommand<'a>(
     alloc: Global,
     name: &'a str,
     about: &'a str,
     help: &'a str,
-    mut options: Vec<Arg<'a>>,
 ) -> Result<Command<'a>, AllocError> {
-    options.push(file_argument(alloc))?;
+    let mut options = match name {
+        "script" => script_options(alloc)?,
+        "bank" => bank_options(alloc)?,
+        _ => check_options(alloc)?,
+    };
+    options.push(
+        Arg::new(alloc, FILE).value_name("FILE").help(
+            "The file to read, in place of standard input; - is standard input",
+        ),
+    )?;
     Command::new(alloc, name)
         .about(about)
         .after_help(help)
         .args(options)
 }
 
-/// The subcommands of `sgt`.
-#[derive(Clone, Copy)]
-enum Word {
-    Script,
-    Bank,
-    Check,
-    Version,
-}
-
-impl Word {
-    /// The subcommand with its options.
-    fn command<'a>(self, alloc: Global) -> Result<Command<'a>, AllocError> {
-        match self {
-            Word::Script => subcommand(
-                alloc,
-                "script",
-                "Runs a script of events, as lines of JSON, and answers each",
-                SCRIPT_HELP,
-                script_options(alloc)?,
-            ),
-            Word::Bank => subcommand(
-                alloc,
-                "bank",
-                "Runs jobs, as lines of JSON, on worker threads",
-                BANK_HELP,
-                bank_options(alloc)?,
-            ),
-            Word::Check => subcommand(
-                alloc,
-                "check",
-                "Checks whether a history is serializable, recoverable, and more",
-                CHECK_HELP,
-                check_options(alloc)?,
-            ),
-            Word::Version => Command::new(alloc, "version")
-                .about("Prints the version")
-                .args(Vec::new(alloc)),
-        }
-    }
-}
-
 /// All subcommands of `sgt`.
 fn subcommands<'a>(alloc: Global) -> Result<Vec<Command<'a>>, AllocError> {
     let mut commands = Vec::new(alloc);
-    for word in [Word::Script, Word::Bank, Word::Check, Word::Version] {
-        commands.push(word.command(alloc)?)?;
+    for (name, about, help) in COMMANDS {
+        commands.push(subcommand(alloc, name, about, help)?)?;
     }
+    commands.push(Command::new(alloc, "version").about("Prints the version"))?;
     Ok(commands)
 }
 
@@ -429,7 +359,8 @@ fn most_bytes(options: &ArgMatches<'_>) -> usize
     (most as usize).min(MOST_BYTES)
 }
 
-/// Runs a script from the input to standard output. `size` is the length of the input in bytes, if that is known.
+/// Runs a script from the input to standard output, and returns the exit status. `size` is the length of the input in
+/// bytes, if that is known.
 fn script<R: Print + Eprint + Files + Clock, I: Read + Drop>(
     rt: &R,
     alloc: Global,
@@ -438,7 +369,7 @@ fn script<R: Print + Eprint + Files + Clock, I: Read + Drop>(
     given: &GivenWords<'_>,
     input: I,
     size: Option<u64>,
-) -> Result<(), Failure<Fault>> {
+) -> ExitCode {
     let shows_progress = shows_progress(&streams, options);
     let chosen = sgt_script::Options {
         most: most_bytes(options),
@@ -455,7 +386,7 @@ fn script<R: Print + Eprint + Files + Clock, I: Read + Drop>(
     } else {
         None
     };
-    match sgt_script::run(
+    let ran = sgt_script::run(
         rt,
         alloc,
         &mut source,
@@ -464,40 +395,45 @@ fn script<R: Print + Eprint + Files + Clock, I: Read + Drop>(
         explanations,
         &given.words,
         &mut line,
-    ) {
-        Ok(()) => {
-            warn_of_words(rt, given.unsaid(alloc, bytes_of(&line)));
-            Ok(())
-        }
-        Err(Fault::Writing) => Err(writer.inner.failure(Fault::Writing)),
-        Err(fault) => {
-            let file = named_file(options);
-            Err(failure_of(
-                rt,
-                alloc,
-                sgt_line_errors::Command::Script,
-                bytes_of(&line),
-                file,
-                chosen.most,
-                fault,
-            ))
-        }
-    }
+    );
+    let command = sgt_line_errors::Command::Script;
+    ended(
+        rt,
+        alloc,
+        options,
+        given,
+        &writer.inner,
+        command,
+        line.as_deref(),
+        ran,
+    )
 }
 
-/// The bytes of a line, if memory did not run out for it.
-fn bytes_of(line: &Option<Vec<u8>>) -> Option<&[u8]> {
-    match line {
-        Some(line) => Some(line.as_slice()),
-        None => None,
-    }
-}
-
-/// Says on standard error that words were given to a procedure or a code that is not there.
-fn warn_of_words<R: Eprint>(rt: &R, unsaid: Option<Unsaid<'_>>) {
-    if let Some(unsaid) = unsaid {
-        report(rt, unsaid);
-    }
+/// Reports on standard error how a run ended, and returns its exit status. A fault is about this line, if it is about
+/// one. If all went well, the line is line 1, and words that it has no use for are reported.
+fn ended<R: Eprint + Files, W: Write + Drop>(
+    rt: &R,
+    alloc: Global,
+    options: &ArgMatches<'_>,
+    given: &GivenWords<'_>,
+    output: &OutputBytes<W>,
+    command: sgt_line_errors::Command,
+    line: Option<&[u8]>,
+    ran: Result<(), Fault>,
+) -> ExitCode {
+    let Err(fault) = ran else {
+        if let Some(unsaid) = given.unsaid(alloc, line) {
+            report(rt, unsaid);
+        }
+        return ExitCode::SUCCESS;
+    };
+    let detail = match fault {
+        Fault::Writing => output.detail(),
+        Fault::Reading => unread_detail(rt, named_file(options)),
+        Fault::TooLong => too_long(most_bytes(options)),
+        _ => fault_detail(alloc, command, line, &fault),
+    };
+    failed(rt, fault, detail)
 }
 
 /// Whether a run says how far it is: if that is asked for, or else if standard error is a terminal and nobody types the
@@ -551,7 +487,7 @@ fn read_bank_options(options: &ArgMatches<'_>, shows_progress: bool) -> sgt_bank
     }
 }
 
-/// Runs the jobs of a bank from the input to standard output.
+/// Runs the jobs of a bank from the input to standard output, and returns the exit status.
 fn bank<R: Print + Eprint + Files + Clock + Threads + Wait + Sync, I: Read + Drop>(
     rt: &R,
     alloc: Global,
@@ -559,13 +495,13 @@ fn bank<R: Print + Eprint + Files + Clock + Threads + Wait + Sync, I: Read + Dro
     options: &ArgMatches<'_>,
     given: &GivenWords<'_>,
     input: I,
-) -> Result<(), Failure<Fault>> {
+) -> ExitCode {
     let chosen = read_bank_options(options, shows_progress(&streams, options));
     let mut source = Reader::new(input);
     let mut writer = Writer::new(OutputBytes::new(io::writer(rt)));
     let mut errors = Writer::new(streams.stderr);
     let mut line = Some(Vec::new(alloc));
-    match run_bank(
+    let ran = run_bank(
         rt,
         alloc,
         &mut source,
@@ -574,28 +510,20 @@ fn bank<R: Print + Eprint + Files + Clock + Threads + Wait + Sync, I: Read + Dro
         chosen,
         &given.words,
         &mut line,
-    ) {
-        Ok(()) => {
-            warn_of_words(rt, given.unsaid(alloc, bytes_of(&line)));
-            Ok(())
-        }
-        Err(Fault::Writing) => Err(writer.inner.failure(Fault::Writing)),
-        Err(fault) => {
-            let command = sgt_line_errors::Command::Bank {
-                workers: chosen.workers,
-            };
-            let file = named_file(options);
-            Err(failure_of(
-                rt,
-                alloc,
-                command,
-                bytes_of(&line),
-                file,
-                chosen.most,
-                fault,
-            ))
-        }
-    }
+    );
+    let command = sgt_line_errors::Command::Bank {
+        workers: chosen.workers,
+    };
+    ended(
+        rt,
+        alloc,
+        options,
+        given,
+        &writer.inner,
+        command,
+        line.as_deref(),
+        ran,
+    )
 }
 
 /// Checks a history from the input to standard output, and returns the exit status.
@@ -606,7 +534,7 @@ fn check<R: Print + Eprint + Files, I: Read + Drop>(
     input: I,
 ) -> ExitCode {
     if options.get_flag("all") && !options.get_flag("timeline") {
-        return report(rt, NEEDS_TIMELINE);
+        return misused(rt, "the option '--all' needs '--timeline'", CHECK_USAGE);
     }
     let strict = options.get_flag("strict");
     let level = options.get_str("level");
@@ -614,29 +542,22 @@ fn check<R: Print + Eprint + Files, I: Read + Drop>(
         return check_clients(rt, alloc, options, question_of(level, strict), input);
     }
     if strict || level.is_some() || options.get_flag("json") {
-        return report(rt, NEEDS_MODEL);
+        let needed = "the options '--strict', '--level' and '--json' need '--model list-append'";
+        return misused(rt, needed, CHECK_USAGE);
     }
     let mut source = Remembering::new(alloc, Reader::new(input));
     let mut writer = Writer::new(OutputBytes::new(io::writer(rt)));
-    match run_check(alloc, &mut source, &mut writer, check_output(options)) {
-        Ok(verdict) => judged(rt, options, verdict),
-        Err(CheckFault::Writing) => failed(rt, writer.inner.failure(CheckFault::Writing)),
-        Err(fault) => check_failed(rt, alloc, &source, named_file(options), fault),
-    }
-}
-
-/// Reports why a history could not be checked, and returns the exit status.
-fn check_failed<R: Eprint + Files, S: Source>(
-    rt: &R,
-    alloc: Global,
-    source: &Remembering<S>,
-    file: Option<&str>,
-    fault: CheckFault,
-) -> ExitCode {
-    if is_brace(&fault) {
-        return report_hint(rt, fault, kind_of(source));
-    }
-    failed(rt, check_failure(rt, alloc, source, file, fault))
+    let output = check_output(options);
+    let fault = match run_check(alloc, &mut source, &mut writer, output) {
+        Ok(verdict) => return judged(rt, output, verdict),
+        Err(fault) => fault,
+    };
+    let detail = match fault {
+        CheckFault::Writing => writer.inner.detail(),
+        CheckFault::Reading => unread_detail(rt, named_file(options)),
+        _ => check_detail(alloc, &source, &fault),
+    };
+    failed(rt, fault, detail)
 }
 
 /// Checks what clients saw, from the input to standard output, and returns the exit status.
@@ -651,7 +572,7 @@ fn check_clients<R: Print + Eprint + Files, I: Read + Drop>(
     let mut writer = Writer::new(OutputBytes::new(io::writer(rt)));
     let output = clients_output(options);
     let mut notes = Notes::none();
-    match run_clients(
+    let fault = match run_clients(
         alloc,
         &mut source,
         &mut writer,
@@ -659,32 +580,15 @@ fn check_clients<R: Print + Eprint + Files, I: Read + Drop>(
         question,
         &mut notes,
     ) {
-        Ok(answer) => answered(rt, output, notes, answer),
-        Err(ClientsFault::Check(CheckFault::Writing)) => failed(
-            rt,
-            writer.inner.failure(CheckFault::Writing),
-        ),
-        Err(fault) => clients_failed(rt, alloc, &source, named_file(options), fault),
-    }
-}
-
-/// Reports why what clients saw could not be checked, and returns the exit status.
-fn clients_failed<R: Eprint + Files, S: Source>(
-    rt: &R,
-    alloc: Global,
-    source: &Remembering<S>,
-    file: Option<&str>,
-    fault: ClientsFault,
-) -> ExitCode {
-    if matches!(fault, ClientsFault::Hinted(_, _, _, Hint::History)) {
-        return report_hint(rt, fault, IS_TEXT);
-    }
-    if matches!(fault, ClientsFault::Entry(_, 1, EntryFlaw::NoObject)) {
-        if let Some(hint) = comment_of(source) {
-            return report_hint(rt, fault, hint);
-        }
-    }
-    failed(rt, clients_failure(rt, alloc, source, file, fault))
+        Ok(answer) => return answered(rt, output, notes, answer),
+        Err(fault) => fault,
+    };
+    let detail = match fault {
+        ClientsFault::Check(CheckFault::Writing) => writer.inner.detail(),
+        ClientsFault::Check(CheckFault::Reading) => unread_detail(rt, named_file(options)),
+        _ => clients_detail(alloc, &source, &fault),
+    };
+    failed(rt, fault, detail)
 }
 
 /// What the options ask of what clients saw: by default whether it is serializable, or strictly so.
@@ -698,16 +602,6 @@ fn question_of(level: Option<&str>, strict: bool) -> Question {
         _ => Level::Serializable,
     };
     Question { level, strict }
-}
-
-/// Whether the text of a history starts like JSON or EDN.
-fn is_brace(fault: &CheckFault) -> bool {
-    match fault {
-        CheckFault::Notation(NotationFault::NoOperation(1, shown)) => {
-            shown.text.starts_with(b"{") || shown.text.starts_with(b"[")
-        }
-        _ => false,
-    }
 }
 
 /// The output of a check that the options name.
@@ -753,12 +647,21 @@ fn run<R: Print + Eprint + Input + Files + Clock + Threads + Wait + Sync>(
     if file.is_none() && streams.is_typed {
         report(rt, TYPED);
     }
-    match open_input(rt, file) {
-        Ok(input) => {
-            let size = input.size();
-            run_on(rt, alloc, streams, name, options, input, size)
-        }
-        Err(fault) => report(rt, fault),
+    let input = match open_input(rt, file) {
+        Ok(input) => input,
+        Err(fault) => return failed(rt, fault, Detail::Nothing),
+    };
+    let size = input.size();
+    if name == "check" {
+        return check(rt, alloc, options, input);
+    }
+    let words = match read_words(rt, alloc, options.get_str(WORDS)) {
+        Ok(words) => words,
+        Err((fault, detail)) => return failed(rt, fault, detail),
+    };
+    match name {
+        "bank" => bank(rt, alloc, streams, options, &words, input),
+        _ => script(rt, alloc, streams, options, &words, input, size),
     }
 }
 
@@ -772,41 +675,22 @@ fn print_version<R: Print + Eprint>(rt: &R) -> ExitCode {
 
 /// Reports that a text for standard output could not be written, if somebody reads it, and returns the exit status.
 fn unwritten<R: Eprint>(rt: &R, kind: io::ErrorKind) -> ExitCode {
-    failed(rt, write_failure(Some(kind), Fault::Writing))
-}
-
-/// Runs the subcommand with this name on the input, and returns the exit status. `size` is the length of the input in
-/// bytes, if that is known.
-fn run_on<R: Print + Eprint + Files + Clock + Threads + Wait + Sync, I: Read + Drop>(
-    rt: &R,
-    alloc: Global,
-    streams: Streams,
-    name: &str,
-    options: &ArgMatches<'_>,
-    input: I,
-    size: Option<u64>,
-) -> ExitCode {
-    if name == "check" {
-        return check(rt, alloc, options, input);
-    }
-    let words = match read_words(rt, alloc, options.get_str(WORDS)) {
-        Ok(words) => words,
-        Err(fault) => return report(rt, fault),
-    };
-    match name {
-        "bank" => ended(rt, bank(rt, alloc, streams, options, &words, input)),
-        _ => ended(rt, script(rt, alloc, streams, options, &words, input, size)),
-    }
+    failed(rt, Fault::Writing, write_detail(Some(kind)))
 }
 
 /// The exit status of a check: whether the history is as it should be. After a report, standard error says how many
 /// transactions were not judged.
-fn judged<R: Eprint>(rt: &R, options: &ArgMatches<'_>, verdict: Verdict) -> ExitCode {
-    if let (sgt_check::Output::Report, Some(unjudged)) = (
-        check_output(options),
-        active_ones(&verdict.counts),
-    ) {
-        report(rt, unjudged);
+fn judged<R: Eprint>(rt: &R, output: sgt_check::Output, verdict: Verdict) -> ExitCode {
+    let active = verdict.counts.active();
+    if matches!(output, sgt_check::Output::Report) && active > 0 {
+        let are = if active == 1 { " is" } else { "s are" };
+        let none = match verdict.counts.committed {
+            0 => ", and none committed",
+            _ => "",
+        };
+        let _ = eprintln!(rt;
+            "{active} transaction{are} active{none}: serializable and recoverable judge committed ones alone"
+        );
     }
     if verdict.sound {
         ExitCode::SUCCESS
@@ -827,36 +711,34 @@ fn answered<R: Eprint>(rt: &R, output: ClientsOutput, notes: Notes, answer: Answ
     }
 }
 
-/// The exit status of a run.
-fn ended<R: Eprint>(rt: &R, ran: Result<(), Failure<Fault>>) -> ExitCode {
-    match ran {
-        Ok(()) => ExitCode::SUCCESS,
-        Err(failure) => failed(rt, failure),
-    }
-}
-
-/// Reports a failure on standard error, and returns its exit status.
-fn failed<R: Eprint, F: Display + Drop>(rt: &R, failure: Failure<F>) -> ExitCode {
-    match failure {
-        Failure::Unread => ExitCode::from(2),
-        Failure::Fault(fault, Detail::Nothing) => report(rt, fault),
-        Failure::Fault(fault, detail) => {
+/// Reports an error and what is said about it on standard error, and returns the exit status.
+fn failed<R: Eprint>(rt: &R, fault: impl Display + Drop, detail: Detail) -> ExitCode {
+    match detail {
+        Detail::Unread => ExitCode::from(2),
+        Detail::Nothing => report(rt, fault),
+        Detail::Hint(hint) => {
+            let _ = eprintln!(rt; "{fault}{hint}");
+            ExitCode::from(2)
+        }
+        detail => {
             report(rt, fault);
             report(rt, detail)
         }
     }
 }
 
+/// Reports what is wrong with the arguments, as `clap` would, and returns the exit status.
+fn misused<R: Eprint>(rt: &R, what: &str, usage: &str) -> ExitCode {
+    let _ = eprintln!(rt;
+        "error: {what}\n\nUsage: sgt {usage}\n\nFor more information, try '--help'."
+    );
+    ExitCode::from(2)
+}
+
 /// Writes a text to standard error, and returns the status of a failure. If the write fails too, only the status is
 /// left.
 fn report<R: Eprint>(rt: &R, text: impl Display + Drop) -> ExitCode {
     let _ = eprintln!(rt; "{text}");
-    ExitCode::from(2)
-}
-
-/// The same, with a hint on the same line.
-fn report_hint<R: Eprint>(rt: &R, fault: impl Display + Drop, hint: &str) -> ExitCode {
-    let _ = eprintln!(rt; "{fault}{hint}");
     ExitCode::from(2)
 }
 
@@ -874,15 +756,13 @@ fn refuse<R: Print + Eprint>(rt: &R, alloc: Global, error: &clap::Error) -> Exit
     }
 }
 
-/// Whether these arguments of a bank name threads.
+/// Whether these arguments of a bank name threads, with a value or without one.
 fn names_threads(words: &[String]) -> bool {
     let is_bank = words.iter().any(|word| word.as_str() == "bank");
-    is_bank && words.iter().any(|word| is_threads(word.as_str()))
-}
-
-/// Whether an argument is that option, with a value or without one.
-fn is_threads(word: &str) -> bool {
-    word == "--threads" || word.as_bytes().starts_with(b"--threads=")
+    is_bank
+        && words.iter().any(|word| {
+            word.as_str() == "--threads" || word.as_bytes().starts_with(b"--threads=")
+        })
 }
 
 /// Runs these arguments, and returns the exit status.
@@ -893,7 +773,9 @@ fn run_words<R: Print + Eprint + Input + Files + Clock + Threads + Wait + Sync>(
     words: &[String],
 ) -> ExitCode {
     if names_threads(words) {
-        return report(rt, NO_THREADS);
+        let what =
+            "unexpected argument '--threads' found\n\n  tip: a similar argument exists: '--workers'";
+        return misused(rt, what, "bank --workers <workers> [FILE]");
     }
     let Ok(command) = command(alloc) else {
         return report(rt, Fault::NoMemory);
@@ -908,7 +790,10 @@ fn main(rt: HostRuntime) -> ExitCode {
     let alloc = rt.alloc();
     let words: Result<Vec<String>, AllocError> = match env::args(&rt) {
         Ok(words) => words.collect(alloc),
-        Err(error) if error.kind() == io::ErrorKind::InvalidData => return report(&rt, NO_TEXT),
+        Err(error) if error.kind() == io::ErrorKind::InvalidData => {
+            let what = "invalid UTF-8 was detected in one or more arguments";
+            return misused(&rt, what, "<COMMAND>");
+        }
         Err(_) => return report(&rt, Fault::NoMemory),
     };
     let streams = Streams {

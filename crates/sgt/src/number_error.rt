@@ -13,10 +13,7 @@ pub(crate) fn number_error(alloc: Global, error: &Error) -> Option<String> {
     if error.kind() != ErrorKind::ValueValidation {
         return None;
     }
-    let text = match format!(in alloc; "{error}") {
-        Ok(text) => text,
-        Err(_) => return None,
-    };
+    let text = format!(in alloc; "{error}").ok()?;
     let (before, after) = text.as_str().split_once(NO_NUMBER)?;
     let most = if before.contains("'--workers ") {
         "16"
@@ -25,8 +22,5 @@ pub(crate) fn number_error(alloc: Global, error: &Error) -> Option<String> {
     } else {
         "4294967296"
     };
-    match format!(in alloc; "{before}a whole number from 1 to {most} is expected{after}") {
-        Ok(text) => Some(text),
-        Err(_) => None,
-    }
+    format!(in alloc; "{before}a whole number from 1 to {most} is expected{after}").ok()
 }

@@ -36,13 +36,11 @@ pub(crate) fn word_error(word: &[u8]) -> WordError {
     if word.starts_with(BYTE_ORDER_MARK) {
         return WordError::Words(0, "a byte order mark: save the input without it");
     }
-    for at in 0..word.len() {
-        if word[at] >= 128 {
-            return match code_point(&word[at..]) {
-                Some(code) => WordError::Foreign(at, code),
-                None => WordError::Words(at, "a byte that is not ASCII"),
-            };
-        }
+    if let Some(at) = word.iter().position(|byte| *byte >= 128) {
+        return match code_point(&word[at..]) {
+            Some(code) => WordError::Foreign(at, code),
+            None => WordError::Words(at, "a byte that is not ASCII"),
+        };
     }
     match word.first() {
         Some(b'r' | b'w') => access_error(word),
@@ -107,12 +105,8 @@ fn end_error(word: &[u8]) -> WordError {
 
 /// The index after the digits that follow the first byte.
 fn digits_end(word: &[u8]) -> usize {
-    for at in 1..word.len() {
-        if !word[at].is_ascii_digit() {
-            return at;
-        }
-    }
-    word.len()
+    let digits = word.iter().skip(1).position(|byte| !byte.is_ascii_digit());
+    digits.map_or(word.len(), |digits| digits.saturating_add(1))
 }
 
 /// What is wrong with the number of the transaction, whose digits end before this index.
@@ -120,18 +114,23 @@ fn number_error(word: &[u8], end: usize) -> Option<WordError> {
     if end > 2 && word.get(1) == Some(&b'0') {
         return Some(WordError::Words(1, "the number of a transaction has no leading zeros"));
     }
+    if transaction_of(word) > u64::from(u32::MAX) {
+        return Some(WordError::Words(1, "a transaction is a number from 0 to 4294967295"));
+    }
+    None
+}
+
+/// The transaction of an operation. Its number saturates.
+pub(crate) fn transaction_of(word: &[u8]) -> u64 {
     let mut number = 0u64;
-    for at in 1..word.len() {
-        if at < end {
-            let digit = u64::from(word[at].saturating_sub(b'0'));
-            number = number.saturating_mul(10).saturating_add(digit);
+    for byte in word.iter().skip(1) {
+        if !byte.is_ascii_digit() {
+            return number;
         }
+        let digit = u64::from(byte.saturating_sub(b'0'));
+        number = number.saturating_mul(10).saturating_add(digit);
     }
-    if number > u64::from(u32::MAX) {
-        Some(WordError::Words(1, "a transaction is a number from 0 to 4294967295"))
-    } else {
-        None
-    }
+    number
 }
 
 /// What is wrong with the item that starts at this index, or with what follows it.
@@ -181,23 +180,12 @@ pub(crate) fn index_of(line: &[u8], word: &Shown) -> Option<usize> {
     None
 }
 
-/// The bytes of the word at this index of its line.
-pub(crate) fn word_at(line: &[u8], index: usize) -> &[u8] {
-    if index < line.len() {
-        first_word(&line[index..])
-    } else {
-        b""
-    }
-}
-
 /// The bytes of the word with which these bytes start.
 pub(crate) fn first_word(bytes: &[u8]) -> &[u8] {
-    for at in 0..bytes.len() {
-        if separates_words(bytes[at]) {
-            return &bytes[..at];
-        }
-    }
     bytes
+        .split(|byte| separates_words(*byte))
+        .next()
+        .unwrap_or(b"")
 }
 
 /// Whether a word can start at this index: no word goes on there.
@@ -209,15 +197,11 @@ fn is_start(line: &[u8], at: usize) -> bool
 
 /// Whether these bytes start with a word that is shown so.
 fn is_shown(bytes: &[u8], shown: &[u8]) -> bool {
-    for index in 0..shown.len() {
-        match bytes.get(index) {
-            Some(byte) if shown_byte(*byte) == shown[index] => (),
-            _ => return false,
-        }
-    }
+    let mut pairs = bytes.iter().zip(shown);
+    let is_same = pairs.all(|(byte, shown)| shown_byte(*byte) == *shown);
     match bytes.get(shown.len()) {
-        Some(next) => shown.len() == MOST_SHOWN || separates_words(*next),
-        None => true,
+        Some(next) => is_same && (shown.len() == MOST_SHOWN || separates_words(*next)),
+        None => is_same && bytes.len() == shown.len(),
     }
 }
 

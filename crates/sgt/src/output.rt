@@ -1,7 +1,6 @@
 //! Standard output, which may be a pipe that nobody reads any more.
 
-use crate::failure::{Detail, Failure};
-use std::fmt::Display;
+use crate::failure::Detail;
 use std::io::{self, ErrorKind, Write};
 
 /// Writes to another writer, and notes why the last write failed.
@@ -21,21 +20,20 @@ impl<W: Write + Drop> OutputBytes<W> {
         }
     }
 
-    /// The failure of a run that ended with this fault because a write failed.
-    pub(crate) fn failure<F: Display + Drop>(&self, fault: F) -> Failure<F> {
-        write_failure(self.failed, fault)
+    /// What is said about a run that ended because a write failed.
+    pub(crate) fn detail(&self) -> Detail {
+        write_detail(self.failed)
     }
 }
 
-/// The failure of a run that ended with this fault because a write failed for this reason.
-pub(crate) fn write_failure<F: Display + Drop>(kind: Option<ErrorKind>, fault: F) -> Failure<F> {
+/// What is said about a run that ended because a write failed for this reason.
+pub(crate) fn write_detail(kind: Option<ErrorKind>) -> Detail {
     match kind {
-        Some(ErrorKind::BrokenPipe) => Failure::Unread,
-        Some(ErrorKind::StorageFull) => Failure::Fault(
-            fault,
-            Detail::Words("no space is left where standard output goes"),
+        Some(ErrorKind::BrokenPipe) => Detail::Unread,
+        Some(ErrorKind::StorageFull) => Detail::Words(
+            "no space is left where standard output goes",
         ),
-        _ => Failure::Fault(fault, Detail::Nothing),
+        _ => Detail::Nothing,
     }
 }
 
