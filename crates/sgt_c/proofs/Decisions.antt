@@ -7,10 +7,11 @@ use Rattle.sgt_model.specs.declared.reply.Fate.TheVariants as fate
 use Rattle.sgt_model.specs.ShortReplies.{short_reply}
 use Rattle.sgt_desk.specs.declared.plan.Plan.{Plan}
 use Rattle.sgt_desk.specs.declared.plan.Planned.{Planned}
+use Rattle.sgt_desk.specs.Plans.{PlanTurn}
 use Rattle.sgt_desk.specs.Runs.{is_conflict}
 use Rattle.sgt_c.specs.declared.reply_struct.SgtReply.{SgtReply}
 use Rattle.sgt_c.specs.declared.shared.planning.SgtPlan.{SgtPlan}
-use Rattle.sgt_c.specs.Decisions.{PlanTurn, conflict_in, plan_in}
+use Rattle.sgt_c.specs.Decisions.{conflict_in, plan_in}
 use Rattle.sgt_c.specs.ReplyStructs.{HoldsReply}
 
 pub conflict_said : (s : SgtReply) (r : Reply) → HoldsReply s r → conflict_in s ≡ is_conflict (short_reply r)

@@ -1,5 +1,5 @@
 -- What is decided of the cuts that a configuration asks for, of tries that are made alone, and of calls that are handed on.
-use Rattle.std.specs.Prelude.{◌≡◌, ◌↔◌, ℕ, ◌≤◌, Bool, true, false, cond, ◌&&◌, ◌||◌, nat_eq, List, Some, None, reverse}
+use Rattle.std.specs.Prelude.{◌≡◌, ℕ, Bool, cond, ◌&&◌, ◌||◌, nat_eq, List, Some, None, reverse}
 use Rattle.std.specs.List.{list_any}
 use Rattle.sgt_desk.specs.declared.alone.Solo.{Solo}
 use Rattle.sgt_desk.specs.declared.plan.Plan.{Plan}
@@ -7,7 +7,7 @@ use Rattle.sgt_desk.specs.declared.plan.Planned.{Planned}
 use Rattle.sgt_desk.specs.declared.plan.Planned.TheVariants.{Nothing, Cut, Pause}
 use Rattle.sgt_desk.specs.declared.handing_on.Feed.{Feed}
 use Rattle.sgt_desk.specs.Desks.{one_more, position_in}
-use Rattle.sgt_desk.specs.Plans.{is_due, CanRest, IsPutOff, SamePlan}
+use Rattle.sgt_desk.specs.Plans.{PlanTurn}
 use Rattle.sgt_c.specs.declared.call_struct.SgtCall.{SgtCall}
 use Rattle.sgt_c.specs.declared.held.Held.{Held}
 use Rattle.sgt_c.specs.declared.reply_struct.SgtReply.{SgtReply}
@@ -28,17 +28,7 @@ planned_status Nothing = 0
 planned_status Cut = 33
 planned_status (Pause until) = 32
 
--- what a plan asks for next, and what it is then, as `sgt_desk` has it
-pub record PlanTurn (entries : ℕ) (is_busy : Bool) (now : ℕ) (before : Plan) (planned : Planned) (after : Plan) (wakes : Bool) : Type 0 where
-  pub cut : (planned ≡ Cut) ↔ ((is_due before entries ≡ true) × (is_busy ≡ false))
-  pub pause : (until : ℕ) → (planned ≡ Pause until) ↔ ((is_due before entries ≡ true) × (is_busy ≡ true) × CanRest before now until)
-  pub paused : (until : ℕ) → planned ≡ Pause until → after.pause ≡ Some until
-  pub put_off : (until : ℕ) → is_due before entries ≡ true → is_busy ≡ true → before.pause ≡ Some until → until ≤ now
-      → IsPutOff entries before after × (wakes ≡ true)
-  pub not_due : is_due before entries ≡ false → after ≡ before
-  pub same : SamePlan before after
-
--- the same, as the structs say it
+-- what a plan asks for next, and what it is then, as the structs say it
 abbrev pub MakesPlan : ℕ → Bool → ℕ → ℕ → SgtPlan → SgtPlan → Bool → Type 0
 MakesPlan entries is_busy now status before after wakes = (planned : Planned) × (status ≡ planned_status planned)
     × PlanTurn entries is_busy now (plan_in before) planned (plan_in after) wakes

@@ -1,6 +1,5 @@
 -- Which fields count for a reply, an event or a fault, as C reads it. The others keep their old values.
 use Rattle.std.specs.Prelude.{◌≡◌, ◌≢◌, ℕ, Bool, true, false, ◌&&◌, ◌||◌, cond, nat_eq, drop, List, [], ◌∷◌}
-use Rattle.sgt_model.specs.Contents.{Key}
 use Rattle.sgt_c.specs.declared.event_struct.SgtEvent.{SgtEvent}
 use Rattle.sgt_c.specs.declared.fault_struct.SgtFault.{SgtFault}
 use Rattle.sgt_c.specs.declared.reply_struct.SgtOutcome.{SgtOutcome}
@@ -99,48 +98,3 @@ pub record KeepsOtherFaultFields (old new : SgtFault) : Type 0 where
   pub depth : nat_eq new.kind 20 ≡ false → new.depth ≡ old.depth
   pub spare : new.spare ≡ old.spare
   pub place : KeepsAfter (nat_eq new.kind 20) new.depth old.place new.place
-
--- ---- an event in parts
-
--- the event of this kind that names a transaction and a record
-abbrev pub with_key : ℕ → ℕ → Key → SgtEvent → SgtEvent
-with_key kind t key s = record {
-  kind = kind;
-  tid = t;
-  procedure = s.procedure;
-  args = s.args;
-  arg = s.arg;
-  table = key.0;
-  spare = s.spare;
-  number = key.1;
-  value = s.value;
-}
-
--- ---- a reply in parts
-
--- the fields of a cause are those of the second, and all others those of the first
-abbrev pub with_cause : SgtReply → SgtReply → SgtReply
-with_cause s by = record {
-  kind = s.kind;
-  cause = by.cause;
-  tid = s.tid;
-  code = by.code;
-  table = s.table;
-  found = s.found;
-  number = s.number;
-  value = s.value;
-  answers = s.answers;
-  walked = by.walked;
-  fallen = s.fallen;
-  spare = s.spare;
-  answer = s.answer;
-  walk = by.walk;
-  fell = s.fell;
-}
-
--- only the fields of the new cause have changed
-pub record WritesCause (old new : SgtReply) : Type 0 where
-  pub rest : new ≡ with_cause old new
-  pub code : nat_eq new.cause 2 ≡ false → new.code ≡ old.code
-  pub walked : nat_eq new.cause 1 ≡ false → new.walked ≡ old.walked
-  pub walk : KeepsAfter (nat_eq new.cause 1) new.walked old.walk new.walk

@@ -76,18 +76,12 @@ fate_by n s = cond (nat_eq n 0) (Some fate.Committed) (cond (nat_eq n 4) (Some (
 abbrev pub fate_in : SgtReply → Option Fate
 fate_in s = fate_by s.cause s
 
--- a read, if the key and the value that was found are in range
-abbrev pub looked_in : SgtReply → Option Reply
-looked_in s = option_and_then (λ key. option_map (reply.Looked key) (found_in s)) (key_in s)
-
--- a write, if the key and the value that was written are in range
-abbrev pub wrote_in : SgtReply → Option Reply
-wrote_in s = option_and_then (λ key. option_map (reply.Wrote key) (found_in s)) (key_in s)
-
 -- the meaning of each kind, from 0 on
 abbrev pub replies_in : SgtReply → List (Option Reply)
 replies_in s = None ∷ Some (reply.Started s.tid) ∷ Some reply.NoProcedure ∷ Some reply.BadArgs ∷ Some reply.Spent ∷ Some reply.Full
-    ∷ Some reply.Unknown ∷ option_map reply.Over (fate_in s) ∷ looked_in s ∷ wrote_in s
+    ∷ Some reply.Unknown ∷ option_map reply.Over (fate_in s)
+    ∷ option_and_then (λ key. option_map (reply.Looked key) (found_in s)) (key_in s)
+    ∷ option_and_then (λ key. option_map (reply.Wrote key) (found_in s)) (key_in s)
     ∷ Some reply.Ended ∷ Some reply.NotEnded ∷ Some (reply.Waits s.tid) ∷ Some (reply.Committed (take s.answers s.answer))
     ∷ option_map (λ why. reply.Aborted why (take s.fallen s.fell)) (cause_in s)
     ∷ option_map (λ code. reply.Refused code (take s.fallen s.fell)) (code_in s) ∷ []

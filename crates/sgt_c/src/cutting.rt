@@ -1,6 +1,5 @@
 //! Cutting the history.
-ghost use Rattle.std.specs.Prelude.{◌≡◌, ◌+◌, ◌≢◌, ◌≤◌, ◌↔◌, IfErr, IfSome, OnOk, OnErr, length};
-ghost use Rattle.sgt_model.specs.Fates.{live_ones};
+ghost use Rattle.std.specs.Prelude.{◌≡◌, ◌+◌, ◌≢◌, ◌≤◌, ◌↔◌, IfErr, IfSome, OnOk, OnErr};
 ghost use Rattle.sgt_engine.specs.Cuts.{NobodyLive};
 ghost use Rattle.sgt_c.specs.Cuts.{Cut, HasNoPart, IsCut, IsLastPart, IsSomeoneLive, IsTooEarly, ReportsLive};
 ghost use Rattle.sgt_c.specs.Handles.{Visits};
@@ -82,7 +81,7 @@ fn cut(alloc: Global, held: &mut Held) -> Result<(), Uncut>
     ensures nobody { OnOk result (NobodyLive held.old.engine.past) }
     ensures refused { IfErr result (IsTooEarly held.old) }
 {
-    let count = live_count(&held.engine);
+    let count = held.engine.sched().live_count() as u64;
     if count > 0 {
         return Err(Uncut::StillLive(count));
     }
@@ -118,11 +117,4 @@ pub fn cut_engine(alloc: Global, engine: &mut SgtEngine) -> Result<(), NoMemory>
         }
         Err(_) => Err(NoMemory),
     }
-}
-
-/// How many transactions are live.
-fn live_count(engine: &SgtEngine) -> u64
-    ensures { result ≡ length (live_ones engine.now.past) }
-{
-    engine.sched().live_count() as u64
 }

@@ -2,9 +2,9 @@
 ghost use Rattle.std.specs.Prelude.{◌≡◌, ◌≤◌, drop, take};
 ghost use Rattle.sgt_model.specs.declared.event.Event.TheVariants as event;
 ghost use Rattle.sgt_c.specs.EventStructs.{HoldsEvent};
-ghost use Rattle.sgt_c.specs.KeptFields.{KeepsOtherEventFields, with_key};
+ghost use Rattle.sgt_c.specs.KeptFields.{KeepsOtherEventFields};
 
-use sgt_model::{Args, Event, Key, Request};
+use sgt_model::{Args, Event, Request};
 
 /// An event of the engine, for C. `kind` says which of the other fields belong to it.
 #[repr(C)]
@@ -56,23 +56,18 @@ fn write_request(into: &mut SgtEvent, t: u32, request: &Request)
     ensures event { HoldsEvent into.new (event.Access t request.now) }
     ensures kept { KeepsOtherEventFields into.old into.new }
 {
-    match request {
-        Request::Read(key) => write_key(into, 5, t, *key),
-        Request::Write(key, Some(value)) => {
-            write_key(into, 6, t, *key);
-            into.value = *value;
-        }
-        Request::Write(key, None) => write_key(into, 7, t, *key),
-    }
-}
-
-fn write_key(into: &mut SgtEvent, kind: u32, t: u32, key: Key)
-    ensures { into.new ≡ with_key kind t key into.old }
-{
-    into.kind = kind;
+    let (Request::Read(key) | Request::Write(key, _)) = request;
     into.tid = t;
     into.table = key.table() as u32;
     into.number = key.id();
+    match request {
+        Request::Read(_) => into.kind = 5,
+        Request::Write(_, Some(value)) => {
+            into.kind = 6;
+            into.value = *value;
+        }
+        Request::Write(_, None) => into.kind = 7,
+    }
 }
 
 /// Writes arguments, and returns how many there are. The items after them stay.

@@ -1,16 +1,15 @@
 //! The history: its length, its entries, and memory reserved for more.
-ghost use Rattle.std.specs.Prelude.{◌≡◌, ◌≢◌, ◌≤◌, ◌<◌, ◌↔◌, true, false, Some, IfSome, length, slice_get};
-ghost use Rattle.sgt_model.specs.declared.entry.Entry.{Entry};
+ghost use Rattle.std.specs.Prelude.{◌≡◌, ◌≢◌, ◌≤◌, ◌<◌, ◌↔◌, Some, IfSome, length};
 ghost use Rattle.sgt_model.specs.ShortReplies.{reply_with, short_reply};
-ghost use Rattle.sgt_c.specs.KeptFields.{KeepsOtherEventFields, KeepsOtherFields, WritesReply};
-ghost use Rattle.sgt_c.specs.Entries.{HoldsEntry, ReturnsEntry, HasNoEntry};
+ghost use Rattle.sgt_c.specs.KeptFields.{KeepsOtherEventFields, WritesReply};
+ghost use Rattle.sgt_c.specs.Entries.{ReturnsEntry, HasNoEntry};
 ghost use Rattle.sgt_c.specs.Handles.{Visits};
 
 use crate::event_struct::{SgtEvent, write_event};
 use crate::handle::{Handle, take_held};
 use crate::reply_struct::{SgtReply, write_reply};
 use crate::status;
-use sgt_log::{EntryRef, History};
+use sgt_log::EntryRef;
 use sgt_model::{NoMemory, ReplyLists, answers_of, tids_of};
 use std::alloc::Global;
 
@@ -51,27 +50,17 @@ pub fn sgt_entry(
     ensures same { engine.new.slot.held ≡ engine.old.slot.held }
 {
     let held = take_held!(alloc, engine);
-    let found = write_entry(held.engine.history(), place, event, reply);
-    engine.put(held);
-    if found { status::OK } else { status::NONE }
-}
-
-/// Writes the entry at a position, if there is one, and says whether there is.
-fn write_entry(history: &History, place: u64, event: &mut SgtEvent, reply: &mut SgtReply) -> bool
-    ensures found { result ≡ true → (e : Entry) × (slice_get history.now.entries place ≡ Some e) × HoldsEntry event.new reply.new e }
-    ensures none { result ≡ false → length history.now.entries ≤ place }
-    ensures there { result ≡ true → place < length history.now.entries }
-    ensures unwritten { result ≡ false → (event.new ≡ event.old) × (reply.new ≡ reply.old) }
-    ensures event_kept { result ≡ true → KeepsOtherEventFields event.old event.new }
-    ensures kept { result ≡ true → KeepsOtherFields reply.old reply.new }
-{
-    match history.get_entry(place as usize) {
+    match held.engine.history().get_entry(place as usize) {
         Some(entry) => {
             write_event(event, &entry.event());
             write_reply(reply, &entry.short(), &lists_of(&entry));
-            true
+            engine.put(held);
+            status::OK
         }
-        None => false,
+        None => {
+            engine.put(held);
+            status::NONE
+        }
     }
 }
 

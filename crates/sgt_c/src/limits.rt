@@ -1,6 +1,6 @@
 //! The limits of an engine.
 ghost use Rattle.std.specs.Prelude.{◌≡◌, ◌≢◌, IfSome};
-ghost use Rattle.sgt_c.specs.Limits.{code_time, limits_of};
+ghost use Rattle.sgt_c.specs.Limits.{limits_of};
 ghost use Rattle.sgt_c.specs.Handles.{Visits};
 
 use crate::handle::{Handle, take_held};
@@ -25,17 +25,10 @@ pub fn sgt_limits(alloc: Global, engine: &mut Handle, limits: &mut [u64; 3]) -> 
     *limits = [
         u64::from(said.live),
         u64::from(said.begins),
-        code_time(said.asks),
+        match said.asks {
+            Asks::AtStep => 0,
+            Asks::AtCommit => 1,
+        },
     ];
     status::OK
-}
-
-/// The number of a time at which codes are reported.
-fn code_time(asks: Asks) -> u64
-    ensures { result ≡ code_time asks }
-{
-    match asks {
-        Asks::AtStep => 0,
-        Asks::AtCommit => 1,
-    }
 }

@@ -121,18 +121,14 @@ fn make_with(alloc: Global, opening: &[u8], rows: &[SgtRow]) -> Result<Box<Held>
     ensures refused { IfErr result (Refuses 1 opening.now) }
 {
     let opening = read_opening(alloc, 1, opening)?;
-    let Opening {
-        limits,
-        database,
-        procedures,
-    } = opening;
-    let database = with_rows(alloc, database, rows)?;
-    let opened = Opening {
-        limits,
-        database,
-        procedures,
-    };
-    let engine = open_engine(alloc, opened)?;
+    let database = with_rows(alloc, opening.database, rows)?;
+    let engine = open_engine(
+        alloc,
+        Opening {
+            database,
+            ..opening
+        },
+    )?;
     Ok(Held::boxed(alloc, engine)?)
 }
 
@@ -195,13 +191,9 @@ fn limits(live: u64, begins: u64, asks: u64) -> Option<Limits>
     ensures in_range { IfSome result AreInRange }
     ensures none { IsNone result ↔ (¬ AreLimits live begins asks) }
 {
-    if live < 1 || live > u64::from(MOST_LIVE) {
-        return None;
-    }
-    if begins < 1 || begins > u64::from(MOST_BEGINS) {
-        return None;
-    }
-    if asks > 1 {
+    let live_fits = 1 <= live && live <= u64::from(MOST_LIVE);
+    let begins_fits = 1 <= begins && begins <= u64::from(MOST_BEGINS);
+    if !live_fits || !begins_fits || asks > 1 {
         return None;
     }
     Some(Limits {

@@ -1,9 +1,8 @@
 //! The calls of the committed and refused transactions, in the order of their replies.
-ghost use Rattle.std.specs.Prelude.{◌≡◌, ◌≢◌, ◌≤◌, ◌<◌, ◌↔◌, IsNone, IfSome, IfNone, List, ◌++◌, cond, drop, length, reverse, take};
+ghost use Rattle.std.specs.Prelude.{◌≡◌, ◌≢◌, ◌≤◌, ◌<◌, ◌↔◌, IsNone, IfSome, IfNone, List, ◌++◌, drop, length, reverse, take};
 ghost use Rattle.std.specs.List.{All};
 ghost use Rattle.sgt_model.specs.declared.entry.Entry.{Entry};
-ghost use Rattle.sgt_model.specs.Fates.{subject};
-ghost use Rattle.sgt_model.specs.Progress.{call_of, caller_access_in, caller_accesses};
+ghost use Rattle.sgt_model.specs.Progress.{call_of, caller_accesses};
 ghost use Rattle.sgt_model.specs.Questions.{called};
 ghost use Rattle.sgt_model.specs.Replay.{reported_call_in, reported_in};
 ghost use Rattle.sgt_c.specs.AccessStructs.{listed};
@@ -13,11 +12,12 @@ ghost use Rattle.sgt_c.specs.ReplayedCalls.{ArePassed, CountsAccesses, IsLegal, 
 ghost use Rattle.sgt_c.specs.Reruns.{CanBeRerun};
 ghost use Rattle.sgt_c.specs.Handles.{Visits};
 
+use crate::access_list::access_by;
 use crate::call_struct::SgtCall;
 use crate::handle::{Handle, take_held};
 use crate::status;
 use sgt_log::{EntryRef, History};
-use sgt_model::{Args, Call, Event, ShortReply, Tid};
+use sgt_model::{Args, Call, ShortReply, Tid};
 use sgt_progress::reruns_agree;
 use std::alloc::Global;
 
@@ -84,24 +84,13 @@ pub fn pass(history: &History, from: u64, to: &mut [SgtCall]) -> Option<Passed>
     if from > history.len() as u64 {
         return None;
     }
-    Some(pass_from(history, from as usize, to))
-}
-
-/// The same from a position within the history.
-fn pass_from(history: &History, from: usize, to: &mut [SgtCall]) -> Passed
-    requires within { from ≤ length history.now.entries }
-    requires legal { IsLegal history.now.entries }
-    ensures passed { ArePassed history.now.entries from to.new result.count result.next }
-    ensures rest { drop result.count to.new ≡ drop result.count to.old }
-    ensures capacity { length to.new ≡ length to.old }
-{
     let mut count = 0;
-    let mut next = from;
+    let mut next = from as usize;
     while next < history.len() && count < to.len() {
         count = put(to, count, reported_at(history, next));
         next += 1;
     }
-    Passed { count, next }
+    Some(Passed { count, next })
 }
 
 /// Writes a call, if there is one, at this index, and returns how many calls there are.
@@ -148,7 +137,7 @@ fn reported_by(history: &History, place: usize, entry: &EntryRef<'_>) -> Option<
     ensures accesses { IfSome result (CountsAccesses (past_at history.now.entries place)) }
     ensures requested { IfSome result IsStartable }
 {
-    let t = subject(entry);
+    let t = entry.named().unwrap_or(Tid(0));
     match entry.short() {
         ShortReply::Committed => {
             let (started, accesses) = started(history, place, t);
@@ -159,16 +148,6 @@ fn reported_by(history: &History, place: usize, entry: &EntryRef<'_>) -> Option<
             Some(SgtCall::refused(t, &started, accesses, code))
         }
         _ => None,
-    }
-}
-
-/// The transaction that an entry names.
-fn subject(entry: &EntryRef<'_>) -> Tid
-    ensures { result ≡ subject entry.now.event }
-{
-    match entry.event() {
-        Event::Start { .. } => Tid(0),
-        Event::Step(t) | Event::Access(t, _) | Event::Commit(t) | Event::Quit(t) => t,
     }
 }
 
@@ -188,7 +167,7 @@ fn started(history: &History, place: usize, t: Tid) -> (Call, usize)
         if let Some(started) = entry.call_of(t) {
             return (started, accesses);
         }
-        if is_access_by(&entry, t) {
+        if access_by(&entry, t).is_some() {
             accesses += 1;
         }
     }
@@ -197,20 +176,4 @@ fn started(history: &History, place: usize, t: Tid) -> (Call, usize)
         args: Args::new(),
     };
     (none, accesses)
-}
-
-/// Whether an entry makes an access for a transaction's caller.
-fn is_access_by(entry: &EntryRef<'_>, t: Tid) -> bool
-    ensures { length (caller_access_in entry.now.event entry.now.reply t) ≡ cond result 1 0 }
-{
-    match entry.event() {
-        Event::Access(u, _) => {
-            u == t
-                && matches!(
-                    entry.short(),
-                    ShortReply::Looked { .. } | ShortReply::Wrote { .. }
-                )
-        }
-        _ => false,
-    }
 }

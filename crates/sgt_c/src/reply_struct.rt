@@ -3,9 +3,9 @@ ghost use Rattle.std.specs.Prelude.{◌≡◌, ◌≤◌, ◌||◌, true, cond, 
 ghost use Rattle.sgt_model.specs.declared.reply.Reply.{Reply};
 ghost use Rattle.sgt_model.specs.declared.reply.Reply.TheVariants as reply;
 ghost use Rattle.sgt_model.specs.ShortReplies.{full_cause, full_fate, reply_with};
-ghost use Rattle.sgt_c.specs.KeptFields.{KeepsOtherFields, WritesCause};
+ghost use Rattle.sgt_c.specs.KeptFields.{KeepsOtherFields, has_cause};
 ghost use Rattle.sgt_c.specs.ReplyStructs.{HoldsAccess, HoldsCause, HoldsFate, HoldsFound, HoldsReply};
-ghost use Rattle.sgt_c.specs.ReplyReadings.{HoldsValidReply, IsCause, IsFate, code_in, key_in, found_in, cause_in, fate_in, looked_in, reply_in, wrote_in};
+ghost use Rattle.sgt_c.specs.ReplyReadings.{HoldsValidReply, IsCause, IsFate, code_in, key_in, found_in, cause_in, fate_in, reply_in};
 ghost use Rattle.sgt_c.specs.Runs.{IsNumberReported};
 
 use crate::run::Outcome;
@@ -136,8 +136,10 @@ fn write_over(into: &mut SgtReply, fate: ShortFate, walk: &Tids)
 }
 
 fn write_cause(into: &mut SgtReply, cause: ShortCause, walk: &Tids)
+    requires { has_cause into.old ≡ true }
     ensures cause { HoldsCause into.new (full_cause cause walk.now) }
-    ensures kept { WritesCause into.old into.new }
+    ensures kept { KeepsOtherFields into.old into.new }
+    ensures same { (into.new.kind ≡ into.old.kind) × (into.new.fallen ≡ into.old.fallen) × (into.new.fell ≡ into.old.fell) }
 {
     match cause {
         ShortCause::Cycle => {
@@ -200,8 +202,14 @@ fn read_reply(fields: &SgtReply) -> Option<Reply>
         5 => Some(Reply::Full),
         6 => Some(Reply::Unknown),
         7 => Some(Reply::Over(read_fate(fields)?)),
-        8 => read_looked(fields),
-        9 => read_wrote(fields),
+        8 => Some(Reply::Looked {
+            key: read_key(fields)?,
+            value: read_found(fields)?,
+        }),
+        9 => Some(Reply::Wrote {
+            key: read_key(fields)?,
+            value: read_found(fields)?,
+        }),
         10 => Some(Reply::Ended),
         11 => Some(Reply::NotEnded),
         12 => Some(Reply::Waits(Tid(fields.tid))),
@@ -216,24 +224,6 @@ fn read_reply(fields: &SgtReply) -> Option<Reply>
         }),
         _ => None,
     }
-}
-
-fn read_looked(fields: &SgtReply) -> Option<Reply>
-    ensures value { result ≡ looked_in fields.now }
-    ensures valid { fields.now.kind ≡ 8 → IfSome result (HoldsValidReply fields.now) }
-{
-    let key = read_key(fields)?;
-    let value = read_found(fields)?;
-    Some(Reply::Looked { key, value })
-}
-
-fn read_wrote(fields: &SgtReply) -> Option<Reply>
-    ensures value { result ≡ wrote_in fields.now }
-    ensures valid { fields.now.kind ≡ 9 → IfSome result (HoldsValidReply fields.now) }
-{
-    let key = read_key(fields)?;
-    let value = read_found(fields)?;
-    Some(Reply::Wrote { key, value })
 }
 
 fn read_key(fields: &SgtReply) -> Option<Key>
@@ -329,16 +319,10 @@ pub fn write_outcome(into: &mut SgtOutcome, outcome: &Outcome, lists: &ReplyList
     ensures reply { HoldsReply into.new.reply (reply_with outcome.now.last lists.now) }
     ensures kept { KeepsOtherFields into.old.reply into.new.reply }
 {
-    into.tid = number_or_0(outcome.started);
-    into.wrote = u32::from(outcome.wrote);
-    write_reply(&mut into.reply, &outcome.last, lists);
-}
-
-fn number_or_0(t: Option<Tid>) -> u32
-    ensures { IsNumberReported t 0 result }
-{
-    match t {
+    into.tid = match outcome.started {
         Some(t) => t.0,
         None => 0,
-    }
+    };
+    into.wrote = u32::from(outcome.wrote);
+    write_reply(&mut into.reply, &outcome.last, lists);
 }

@@ -1,8 +1,8 @@
 //! Whether a transaction has written.
-ghost use Rattle.std.specs.Prelude.{◌≡◌, ◌≢◌, ◌≤◌, IfSome, cond, length, reverse};
+ghost use Rattle.std.specs.Prelude.{◌≡◌, ◌≢◌, IfSome, cond, reverse};
 ghost use Rattle.sgt_model.specs.Accesses.{access_of, acts};
 ghost use Rattle.sgt_c.specs.Handles.{Visits};
-ghost use Rattle.sgt_c.specs.ReplayedCalls.{IsLegal, past_at};
+ghost use Rattle.sgt_c.specs.ReplayedCalls.{IsLegal};
 ghost use Rattle.sgt_c.specs.Writes.{any_store, stores_by};
 
 use crate::handle::{Handle, take_held};
@@ -36,16 +36,7 @@ fn has_written(history: &History, t: Tid) -> bool
     requires { IsLegal history.now.entries }
     ensures { result ≡ any_store (acts (reverse history.now.entries) t) }
 {
-    has_written_before(history, history.len(), t)
-}
-
-/// The same of those before a position.
-fn has_written_before(history: &History, place: usize, t: Tid) -> bool
-    requires within { place ≤ length history.now.entries }
-    requires legal { IsLegal history.now.entries }
-    ensures { result ≡ any_store (acts (past_at history.now.entries place) t) }
-{
-    let mut at = place;
+    let mut at = history.len();
     while 0 < at {
         at -= 1;
         let entry = history.entry(at);

@@ -1,6 +1,8 @@
 -- Cuts that a configuration asks for, and tries that are made alone.
-use Rattle.std.specs.Prelude.{◌≡◌, ◌⊎◌, ℕ, ◌+◌, ◌<◌, Bool, true, false, not, ◌&&◌, ◌||◌, nat_le, nat_lt, min, Some, None}
+use Rattle.std.specs.Prelude.{◌≡◌, ◌⊎◌, ◌↔◌, ℕ, ◌+◌, ◌≤◌, ◌<◌, Bool, true, false, not, ◌&&◌, ◌||◌, nat_le, nat_lt, min, Some, None}
 use Rattle.sgt_desk.specs.declared.plan.Plan.{Plan}
+use Rattle.sgt_desk.specs.declared.plan.Planned.{Planned}
+use Rattle.sgt_desk.specs.declared.plan.Planned.TheVariants.{Cut, Pause}
 use Rattle.sgt_desk.specs.declared.alone.Solo.{Solo}
 
 -- ---- cuts
@@ -24,6 +26,16 @@ IsPutOff entries before after = (after.at ≡ sum entries before.after) × (afte
 -- what the configuration asks for is the same
 abbrev pub SamePlan : Plan → Plan → Type 0
 SamePlan before after = (after.after ≡ before.after) × (after.patience ≡ before.patience)
+
+-- what a plan asks for next, and what it is then
+pub record PlanTurn (entries : ℕ) (is_busy : Bool) (now : ℕ) (before : Plan) (planned : Planned) (after : Plan) (wakes : Bool) : Type 0 where
+  pub cut : (planned ≡ Cut) ↔ ((is_due before entries ≡ true) × (is_busy ≡ false))
+  pub pause : (until : ℕ) → (planned ≡ Pause until) ↔ ((is_due before entries ≡ true) × (is_busy ≡ true) × CanRest before now until)
+  pub paused : (until : ℕ) → planned ≡ Pause until → after.pause ≡ Some until
+  pub put_off : (until : ℕ) → is_due before entries ≡ true → is_busy ≡ true → before.pause ≡ Some until → until ≤ now
+      → IsPutOff entries before after × (wakes ≡ true)
+  pub not_due : is_due before entries ≡ false → after ≡ before
+  pub same : SamePlan before after
 
 -- ---- tries that are made alone
 

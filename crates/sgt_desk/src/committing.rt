@@ -1,8 +1,9 @@
 //! Turns of a commit.
-ghost use Rattle.std.specs.Prelude.{◌≡◌, ◌≢◌, ◌↔◌, true, false, Ok};
+ghost use Rattle.std.specs.Prelude.{◌≡◌, ◌≢◌, true, false, Ok};
 ghost use Rattle.sgt_model.specs.declared.event.Event.TheVariants.{Commit};
 ghost use Rattle.sgt_desk.specs.Asks.{has_come, is_of_cut, CommitsWhy, IsNoWait, Rests};
-ghost use Rattle.sgt_desk.specs.Desks.{state, with_call, without_call, Adds, AddsEntry, MayAdd, MayAddEntry, SameHistory, StaysLive, Wakes};
+ghost use Rattle.sgt_desk.specs.Calls.{CommitTurn};
+ghost use Rattle.sgt_desk.specs.Desks.{state, Adds, MayAdd, StaysLive, Wakes};
 
 use crate::answering::Answering;
 use crate::ask::{Ask, Ticket, Turn};
@@ -61,23 +62,7 @@ pub fn commit<E: Answering>(
     now: u64,
     wakes: &mut bool,
 ) -> Result<Turn, NoMemory>
-    ensures done { result ≡ Ok Turn.Done
-        → AddsEntry (Commit ticket.tid) (state E.state desk.old) ask.new.reply (state E.state desk.new) }
-    ensures no_wait { result ≡ Ok Turn.Done → IsNoWait ask.new.reply }
-    ensures rests { result ≡ Ok Turn.Rest → Rests ask.new now (state E.state desk.new) }
-    ensures counted { result ≡ Ok Turn.Rest → (ask.new.is_counted ≡ true)
-        × ((state E.state desk.new).committing ≡ with_call ask.old.is_counted (state E.state desk.old).committing) }
-    ensures uncounted { result ≢ Ok Turn.Rest → (ask.new.is_counted ≡ false)
-        × ((state E.state desk.new).committing ≡ without_call ask.old.is_counted (state E.state desk.old).committing) }
-    ensures cutters { (state E.state desk.new).cutters ≡ (state E.state desk.old).cutters }
-    ensures why { CommitsWhy ticket.tid ask.old.reason ask.new.reply ask.new.reason }
-    ensures late { result ≡ Ok Turn.Late → has_come ask.old.deadline now ≡ true }
-    ensures live { result ≢ Ok Turn.Done → StaysLive (state E.state desk.old) (state E.state desk.new) }
-    ensures again { result ≢ Ok Turn.Again }
-    ensures stale { (result ≡ Ok Turn.Stale) ↔ (ticket.part ≢ (state E.state desk.old).part) }
-    ensures unchanged { result ≡ Ok Turn.Stale → SameHistory (state E.state desk.old) (state E.state desk.new) }
-    ensures entries { MayAddEntry (Commit ticket.tid) (state E.state desk.old) ask.new.reply (state E.state desk.new) }
-    ensures deadline { ask.new.deadline ≡ ask.old.deadline }
+    ensures turn { CommitTurn ticket now (state E.state desk.old) ask.old (state E.state desk.new) ask.new result }
     ensures wakes { Wakes (state E.state desk.old) (state E.state desk.new) wakes.new }
     ensures woken { wakes.old ≡ true → wakes.new ≡ true }
 {

@@ -2,7 +2,8 @@
 ghost use Rattle.std.specs.Prelude.{◌≡◌, ◌≢◌, ◌⊎◌, true, false, Ok, Some};
 ghost use Rattle.sgt_desk.specs.declared.reason.Reason.TheVariants.{Busy};
 ghost use Rattle.sgt_desk.specs.Asks.{has_come, Rests, SawCut};
-ghost use Rattle.sgt_desk.specs.Desks.{state, is_busy, with_call, without_call, IsCutOff, SameCounts, SameHistory, Wakes};
+ghost use Rattle.sgt_desk.specs.Calls.{CutTurn};
+ghost use Rattle.sgt_desk.specs.Desks.{state, is_busy, IsCutOff, SameCounts, SameHistory, Wakes};
 
 use crate::answering::Answering;
 use crate::ask::{Ask, Turn};
@@ -54,20 +55,7 @@ pub fn cut<E: Answering>(
     now: u64,
     wakes: &mut bool,
 ) -> Result<Turn, NoMemory>
-    ensures done { result ≡ Ok Turn.Done → IsCutOff (state E.state desk.old) (state E.state desk.new)
-        ⊎ (SawCut ask.old (state E.state desk.old) × SameHistory (state E.state desk.old) (state E.state desk.new)) }
-    ensures rests { result ≡ Ok Turn.Rest → Rests ask.new now (state E.state desk.new) }
-    ensures why { result ≡ Ok Turn.Rest → ask.new.reason ≡ Some (Busy (state E.state desk.new).part) }
-    ensures counted { result ≡ Ok Turn.Rest → (ask.new.is_counted ≡ true)
-        × ((state E.state desk.new).cutters ≡ with_call ask.old.is_counted (state E.state desk.old).cutters) }
-    ensures uncounted { result ≢ Ok Turn.Rest → (ask.new.is_counted ≡ false)
-        × ((state E.state desk.new).cutters ≡ without_call ask.old.is_counted (state E.state desk.old).cutters) }
-    ensures committing { (state E.state desk.new).committing ≡ (state E.state desk.old).committing }
-    ensures deadline { ask.new.deadline ≡ ask.old.deadline }
-    ensures late { result ≡ Ok Turn.Late → has_come ask.old.deadline now ≡ true }
-    ensures turns { (result ≢ Ok Turn.Again) × (result ≢ Ok Turn.Stale) }
-    ensures unchanged { result ≢ Ok Turn.Done → SameHistory (state E.state desk.old) (state E.state desk.new) }
-    ensures busy { is_busy (state E.state desk.old) ≡ true → SameHistory (state E.state desk.old) (state E.state desk.new) }
+    ensures turn { CutTurn now (state E.state desk.old) ask.old (state E.state desk.new) ask.new result }
     ensures wakes { Wakes (state E.state desk.old) (state E.state desk.new) wakes.new }
     ensures woken { wakes.old ≡ true → wakes.new ≡ true }
 {

@@ -1,7 +1,8 @@
 //! Events of one transaction that never rest: its steps, the accesses that its caller decides, and its abort.
-ghost use Rattle.std.specs.Prelude.{◌≡◌, ◌≢◌, ◌↔◌, true, Ok};
+ghost use Rattle.std.specs.Prelude.{◌≡◌, true};
 ghost use Rattle.sgt_desk.specs.Asks.{event_of};
-ghost use Rattle.sgt_desk.specs.Desks.{state, Adds, Wakes};
+ghost use Rattle.sgt_desk.specs.Calls.{MakeTurn};
+ghost use Rattle.sgt_desk.specs.Desks.{state, Wakes};
 
 use crate::answering::Answering;
 use crate::ask::{Ticket, Turn};
@@ -42,11 +43,7 @@ pub fn make<E: Answering>(
     reply: &mut ShortReply,
     wakes: &mut bool,
 ) -> Result<Turn, NoMemory>
-    ensures done { result ≡ Ok Turn.Done
-        → Adds (event_of asked ticket.tid) (state E.state desk.old) reply.new (state E.state desk.new) }
-    ensures stale { (result ≡ Ok Turn.Stale) ↔ (ticket.part ≢ (state E.state desk.old).part) }
-    ensures turns { (result ≢ Ok Turn.Again) × (result ≢ Ok Turn.Rest) × (result ≢ Ok Turn.Late) }
-    ensures unchanged { result ≢ Ok Turn.Done → state E.state desk.new ≡ state E.state desk.old }
+    ensures turn { MakeTurn ticket asked (state E.state desk.old) reply.new (state E.state desk.new) result }
     ensures wakes { Wakes (state E.state desk.old) (state E.state desk.new) wakes.new }
     ensures woken { wakes.old ≡ true → wakes.new ≡ true }
 {

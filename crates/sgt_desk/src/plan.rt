@@ -1,6 +1,6 @@
 //! Cuts that a configuration asks for: when one is due, and until when starts wait for it.
-ghost use Rattle.std.specs.Prelude.{◌≡◌, ◌≢◌, ◌↔◌, ◌≤◌, true, false, Some, None};
-ghost use Rattle.sgt_desk.specs.Plans.{is_due, sum, CanRest, IsPutOff, SamePlan};
+ghost use Rattle.std.specs.Prelude.{◌≡◌, ◌≢◌, ◌↔◌, true, Some, None};
+ghost use Rattle.sgt_desk.specs.Plans.{is_due, CanRest, IsPutOff, PlanTurn, SamePlan};
 
 /// When the history is cut by itself.
 #[derive(Clone, Copy)]
@@ -37,14 +37,7 @@ impl Plan {
     /// What comes next: a cut that is due, as soon as the history may be cut. Until then starts wait for it, if they do, and if they have
     /// waited as long as the plan says, it is put off. `wakes` becomes true if starts wait no longer.
     pub fn next(&mut self, entries: u64, is_busy: bool, now: u64, wakes: &mut bool) -> Planned
-        ensures cut { (result ≡ Planned.Cut) ↔ ((is_due self.old entries ≡ true) × (is_busy ≡ false)) }
-        ensures pause { (until : _) → (result ≡ Planned.Pause until)
-            ↔ ((is_due self.old entries ≡ true) × (is_busy ≡ true) × CanRest self.old now until) }
-        ensures paused { (until : _) → result ≡ Planned.Pause until → self.new.pause ≡ Some until }
-        ensures put_off { (until : _) → is_due self.old entries ≡ true → is_busy ≡ true → self.old.pause ≡ Some until → until ≤ now
-            → IsPutOff entries self.old self.new × (wakes.new ≡ true) }
-        ensures at { (is_due self.old entries ≡ false) → self.new ≡ self.old }
-        ensures same { SamePlan self.old self.new }
+        ensures turn { PlanTurn entries is_busy now self.old result self.new wakes.new }
         ensures woken { wakes.old ≡ true → wakes.new ≡ true }
     {
         if !self.is_due(entries) {

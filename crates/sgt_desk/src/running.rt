@@ -1,9 +1,10 @@
 //! Turns of a run: a procedure from its start to its commit, tried again after a conflict.
-ghost use Rattle.std.specs.Prelude.{◌≡◌, ◌≢◌, ◌≤◌, ◌<◌, ℕ, true, false, cond, Ok, Some, None, IfOk, is_some};
+ghost use Rattle.std.specs.Prelude.{◌≡◌, ◌<◌, true, false, Ok, Some, None, IfOk};
 ghost use Rattle.sgt_model.specs.Fates.{live, start_count};
 ghost use Rattle.sgt_model.specs.declared.event.Event.TheVariants.{Start};
-ghost use Rattle.sgt_desk.specs.Asks.{has_come, Rests, SameButReply};
-ghost use Rattle.sgt_desk.specs.Desks.{state, with_call, without_call, SameCounts, Wakes};
+ghost use Rattle.sgt_desk.specs.Asks.{SameButReply};
+ghost use Rattle.sgt_desk.specs.Calls.{RunTurn};
+ghost use Rattle.sgt_desk.specs.Desks.{state, SameCounts, Wakes};
 ghost use Rattle.sgt_desk.specs.Attempts.{ActsFor, TurnsAttempt};
 ghost use Rattle.sgt_desk.specs.Runs.{is_conflict, is_over, named, RequestsOnly, Begins, IsOutcome, LeavesOnly, RunsWhy};
 
@@ -106,17 +107,12 @@ fn step_on<E: Answering>(
     let mut reply = ShortReply::Unknown;
     for _ in 0..u64::MAX {
         desk.answer(&step, &mut reply, wakes)?;
-        if !is_access(&reply) {
+        if !matches!(reply, ShortReply::Looked { .. } | ShortReply::Wrote { .. }) {
             return Ok(reply);
         }
     }
     // No memory can hold a history of that many entries.
     Err(NoMemory)
-}
-
-#[inline(always)]
-fn is_access(reply: &ShortReply) -> bool {
-    matches!(reply, ShortReply::Looked { .. } | ShortReply::Wrote { .. })
 }
 
 /// Ends an attempt, whose newest reply this is: the run is done, or tries again, at once or after another transaction has ended.
@@ -298,31 +294,7 @@ pub fn run_procedure<E: Answering>(
     now: u64,
     wakes: &mut bool,
 ) -> Result<Turn, NoMemory>
-    ensures outcome { result ≡ Ok Turn.Done → IsOutcome run.new.ask.reply (named run.new.ticket) (state E.state desk.new).past }
-    ensures done { result ≡ Ok Turn.Done → is_conflict run.new.ask.reply ≡ true → run.new.most ≤ run.new.tries }
-    ensures call { Begins procedure args.now (state E.state desk.old) run.old (state E.state desk.new) run.new }
-    ensures others { RequestsOnly (named run.new.ticket) (state E.state desk.old).past (state E.state desk.new).past }
-    ensures part { (state E.state desk.new).part ≡ (state E.state desk.old).part }
-    ensures configuration { (state E.state desk.new).configuration ≡ (state E.state desk.old).configuration }
-    ensures left { LeavesOnly run.old.attempt (start_count (state E.state desk.old).past) (state E.state desk.new).past
-        run.new.attempt }
-    ensures only { result ≢ Ok Turn.Rest → run.new.attempt ≡ None }
-    ensures over { is_over run.old.ask.deadline run.old.tries now ≡ true
-        → start_count (state E.state desk.new).past ≡ start_count (state E.state desk.old).past }
-    ensures cut { 0 < (state E.state desk.old).cutters
-        → start_count (state E.state desk.new).past ≡ start_count (state E.state desk.old).past }
-    ensures again { result ≡ Ok Turn.Again → (is_conflict run.new.ask.reply ≡ true) × (run.new.tries < run.new.most) }
-    ensures rests { result ≡ Ok Turn.Rest → Rests run.new.ask now (state E.state desk.new) }
-    ensures why { RunsWhy (state E.state desk.new) run.old.ask.reason run.new.attempt run.new.ask.reply run.new.ask.reason }
-    ensures counted { run.new.ask.is_counted ≡ is_some run.new.attempt }
-    ensures committing { (state E.state desk.new).committing ≡ cond (is_some run.new.attempt)
-        (with_call run.old.ask.is_counted (state E.state desk.old).committing)
-        (without_call run.old.ask.is_counted (state E.state desk.old).committing) }
-    ensures cutters { (state E.state desk.new).cutters ≡ (state E.state desk.old).cutters }
-    ensures late { result ≡ Ok Turn.Late → has_come run.old.ask.deadline now ≡ true }
-    ensures stale { result ≢ Ok Turn.Stale }
-    ensures most { run.new.most ≡ run.old.most }
-    ensures deadline { run.new.ask.deadline ≡ run.old.ask.deadline }
+    ensures turn { RunTurn procedure args.now now (state E.state desk.old) run.old (state E.state desk.new) run.new result }
     ensures wakes { Wakes (state E.state desk.old) (state E.state desk.new) wakes.new }
     ensures woken { wakes.old ≡ true → wakes.new ≡ true }
 {

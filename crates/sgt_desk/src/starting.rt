@@ -1,8 +1,7 @@
 //! Turns of a start.
-ghost use Rattle.std.specs.Prelude.{◌≡◌, ◌≢◌, ◌⊎◌, ◌<◌, ℕ, true, Ok};
-ghost use Rattle.sgt_model.specs.declared.event.Event.TheVariants.{Start};
-ghost use Rattle.sgt_desk.specs.Asks.{has_come, IsNotFull, Rests, StartsWhy};
-ghost use Rattle.sgt_desk.specs.Desks.{state, Adds, MayAdd, Wakes};
+ghost use Rattle.std.specs.Prelude.{◌≡◌, true};
+ghost use Rattle.sgt_desk.specs.Calls.{StartTurn};
+ghost use Rattle.sgt_desk.specs.Desks.{state, Wakes};
 
 use crate::answering::Answering;
 use crate::ask::{Ask, Turn};
@@ -21,16 +20,7 @@ pub fn start<E: Answering>(
     now: u64,
     wakes: &mut bool,
 ) -> Result<Turn, NoMemory>
-    ensures done { result ≡ Ok Turn.Done
-        → Adds (Start procedure args.now) (state E.state desk.old) ask.new.reply (state E.state desk.new) }
-    ensures not_full { result ≡ Ok Turn.Done → IsNotFull ask.new.reply }
-    ensures rests { result ≡ Ok Turn.Rest → Rests ask.new now (state E.state desk.new) }
-    ensures why { StartsWhy (state E.state desk.old) ask.old.reason ask.new.reason }
-    ensures cut { 0 < (state E.state desk.old).cutters → state E.state desk.new ≡ state E.state desk.old }
-    ensures late { result ≡ Ok Turn.Late → has_come ask.old.deadline now ≡ true }
-    ensures turns { (result ≢ Ok Turn.Again) × (result ≢ Ok Turn.Stale) }
-    ensures entries { MayAdd (Start procedure args.now) (state E.state desk.old) ask.new.reply (state E.state desk.new) }
-    ensures deadline { ask.new.deadline ≡ ask.old.deadline }
+    ensures turn { StartTurn procedure args.now now (state E.state desk.old) ask.old (state E.state desk.new) ask.new result }
     ensures wakes { Wakes (state E.state desk.old) (state E.state desk.new) wakes.new }
     ensures woken { wakes.old ≡ true → wakes.new ≡ true }
 {

@@ -85,31 +85,15 @@ pub fn sgt_desk_admits(
     let held = take_held!(alloc, engine);
     let live = held.engine.sched().live_count();
     engine.put(held);
-    admit(
-        solo,
-        live,
-        alone == 1,
-        for_ever == 1,
-        has_own(notes, thread),
-    )
-}
-
-/// The same where this many are live, and the thread has one of them or not.
-fn admit(solo: &mut SgtSolo, live: usize, alone: bool, for_ever: bool, own: bool) -> u32
-    ensures admits { result ≡ admission (waits_for_others (solo_in solo.old) alone live own) for_ever own }
-    ensures alone { result ≡ 0 → (solo_in solo.new).is_live ≡ alone }
-    ensures waiting { solo.new.waiting ≡ solo.old.waiting }
-    ensures unchanged { result ≢ 0 → solo.new ≡ solo.old }
-    ensures statuses { (result ≢ 2) × (result ≢ 10) }
-{
-    if read_solo(solo).holds_up(alone, live, own) {
-        return if for_ever && own {
+    let own = has_own(notes, thread);
+    if read_solo(solo).holds_up(alone == 1, live, own) {
+        return if for_ever == 1 && own {
             status::SELF_WAIT
         } else {
             status::REST
         };
     }
-    solo.is_live = u32::from(alone);
+    solo.is_live = u32::from(alone == 1);
     status::OK
 }
 

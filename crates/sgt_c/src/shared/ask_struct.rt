@@ -41,30 +41,23 @@ pub fn read_ask(ask: &SgtAsk) -> Ask
 fn read_deadline(ask: &SgtAsk) -> Deadline
     ensures { result ≡ deadline_in ask.now }
 {
-    if ask.until == 1 {
-        Deadline::AtOnce
-    } else if ask.until == 2 {
-        Deadline::At(ask.deadline)
-    } else {
-        Deadline::Never
+    match ask.until {
+        1 => Deadline::AtOnce,
+        2 => Deadline::At(ask.deadline),
+        _ => Deadline::Never,
     }
 }
 
 fn read_reason(ask: &SgtAsk) -> Option<Reason>
     ensures { result ≡ reason_in ask.now }
 {
-    if ask.reason == 1 {
-        Some(Reason::Turn(Tid(ask.turn), Tid(ask.first)))
-    } else if ask.reason == 2 {
-        Some(Reason::Full(ask.number as usize))
-    } else if ask.reason == 3 {
-        Some(Reason::End(ask.number))
-    } else if ask.reason == 4 {
-        Some(Reason::Busy(ask.number))
-    } else if ask.reason == 5 {
-        Some(Reason::Cut)
-    } else {
-        None
+    match ask.reason {
+        1 => Some(Reason::Turn(Tid(ask.turn), Tid(ask.first))),
+        2 => Some(Reason::Full(ask.number as usize)),
+        3 => Some(Reason::End(ask.number)),
+        4 => Some(Reason::Busy(ask.number)),
+        5 => Some(Reason::Cut),
+        _ => None,
     }
 }
 

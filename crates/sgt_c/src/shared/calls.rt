@@ -91,32 +91,14 @@ pub fn sgt_desk_commit(
 {
     let mut lent = lend(take_held!(alloc, engine), desk);
     let ticket = Ticket { part, tid: Tid(t) };
-    let made = commit_lent(&mut lent, ask, ticket, now, reply, wakes);
-    engine.put(give_back(lent, desk));
-    made
-}
-
-/// The same for a desk.
-fn commit_lent(
-    desk: &mut Desk<Lent>,
-    ask: &mut SgtAsk,
-    ticket: Ticket,
-    now: u64,
-    reply: &mut SgtReply,
-    wakes: &mut u32,
-) -> u32
-    ensures turn { MakesCommit ticket now result ask.old ask.new (state lent_state desk.old) (state lent_state desk.new) }
-    ensures reported { result ≡ 0 → Reports reply.new (state lent_state desk.old) (state lent_state desk.new) }
-    ensures wakes { WakesBy wakes.new (state lent_state desk.old) (state lent_state desk.new) }
-    ensures writes { WritesReply result reply.old reply.new }
-    ensures turns { IsTurn result }
-{
     let mut call = read_ask(ask);
     let mut woken = false;
-    let made = commit(desk, &mut call, ticket, now, &mut woken);
+    let made = commit(&mut lent, &mut call, ticket, now, &mut woken);
     *ask = ask_struct(&call);
-    let lists = desk.engine.held.engine.reply_lists();
-    end_turn(&made, &call.reply, lists, woken, reply, wakes)
+    let lists = lent.engine.held.engine.reply_lists();
+    let next = end_turn(&made, &call.reply, lists, woken, reply, wakes);
+    engine.put(give_back(lent, desk));
+    next
 }
 
 /// A turn of a run of the procedure with this number and these arguments, from its start to its commit, with new attempts after conflicts.
@@ -229,18 +211,13 @@ fn asked_of(kind: u32, table: u64, number: i64, value: i64) -> Option<Asked>
 fn read_asked(kind: u32, key: Key, value: i64) -> Option<Asked>
     ensures { result ≡ asked_in kind key value }
 {
-    if kind == 2 {
-        Some(Asked::Step)
-    } else if kind == 4 {
-        Some(Asked::Quit)
-    } else if kind == 5 {
-        Some(Asked::Access(Request::Read(key)))
-    } else if kind == 6 {
-        Some(Asked::Access(Request::Write(key, Some(value))))
-    } else if kind == 7 {
-        Some(Asked::Access(Request::Write(key, None)))
-    } else {
-        None
+    match kind {
+        2 => Some(Asked::Step),
+        4 => Some(Asked::Quit),
+        5 => Some(Asked::Access(Request::Read(key))),
+        6 => Some(Asked::Access(Request::Write(key, Some(value)))),
+        7 => Some(Asked::Access(Request::Write(key, None))),
+        _ => None,
     }
 }
 

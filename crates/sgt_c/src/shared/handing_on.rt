@@ -7,7 +7,6 @@ ghost use Rattle.sgt_c.specs.Handles.{Visits};
 
 use crate::call_struct::SgtCall;
 use crate::handle::{Handle, take_held};
-use crate::held::Held;
 use crate::replayed_calls::pass;
 use crate::status;
 use sgt_desk::Feed;
@@ -33,24 +32,13 @@ pub fn sgt_desk_hand_on(
     ensures same { engine.new.slot.held ≡ engine.old.slot.held }
 {
     let held = take_held!(alloc, engine);
-    let handed = hand_on(&held, feed, call, number);
+    let part = held.part;
+    let passed = pass(held.engine.history(), feed.position(part), &mut call[..]);
     engine.put(held);
-    handed
-}
-
-/// The same for the content of a handle.
-fn hand_on(held: &Held, feed: &mut Feed, call: &mut [SgtCall; 1], number: &mut u64) -> u32
-    ensures hands_on { result ≡ 0 → HandsOn held.now feed.old call.new number.new feed.new }
-    ensures none { result ≡ 4 → (length held.now.engine.past < position_in feed.old held.now.part)
-        ⊎ ArePassed (reverse held.now.engine.past) (position_in feed.old held.now.part) call.new 0 feed.new.read }
-    ensures count { result ≢ 0 → (feed.new.count ≡ feed.old.count) × (number.new ≡ number.old) }
-    ensures statuses { (result ≡ 0) ⊎ (result ≡ 4) }
-{
-    let from = feed.position(held.part);
-    let Some(passed) = pass(held.engine.history(), from, &mut call[..]) else {
+    let Some(passed) = passed else {
         return status::NONE;
     };
-    match feed.pass(held.part, passed.next as u64, passed.count > 0) {
+    match feed.pass(part, passed.next as u64, passed.count > 0) {
         Some(given) => {
             *number = given;
             status::OK

@@ -91,18 +91,11 @@ pub fn sgt_desk_put_off(
     let held = take_held!(alloc, engine);
     let entries = held.engine.history().len() as u64;
     engine.put(held);
-    put_off(plan, entries);
-    *wakes = 1;
-    status::OK
-}
-
-/// The same for a history of this many entries.
-fn put_off(plan: &mut SgtPlan, entries: u64)
-    ensures put_off { IsPutOff entries (plan_in plan.old) (plan_in plan.new) × SamePlan (plan_in plan.old) (plan_in plan.new) }
-{
     let mut next = read_plan(plan);
     next.put_off(entries, &mut false);
     *plan = plan_struct(&next);
+    *wakes = 1;
+    status::OK
 }
 
 /// The plan that a struct says.

@@ -9,12 +9,5 @@ returns-clause-plan c = (
   plan_said c.args.entries c.args.is_busy c.args.now c.args.plan.now c.plan_struct.result _ _ c.next-planned.result c.next-planned.new.wakes _
       c.read_plan-next.ensures c.plan_struct.ensures
       (λ w. c.note_wake.ensures.woken ∙ ap (λ b. b || nat_eq c.args.wakes.now 1) w)
-      (record {
-        cut = c.next-planned.ensures.cut;
-        pause = c.next-planned.ensures.pause;
-        paused = c.next-planned.ensures.paused;
-        put_off = c.next-planned.ensures.put_off;
-        not_due = c.next-planned.ensures.at;
-        same = c.next-planned.ensures.same;
-      }),
+      c.next-planned.ensures.turn,
 )

@@ -2,7 +2,7 @@ use Rattle.std.proofs.Common.{◌≡◌, ◌-◌, ◌≤◌, length, take, drop}
 use Rattle.std.specs.List.{All}
 use Rattle.sgt_c.specs.ManyRuns.{IsStartable}
 use Rattle.sgt_c.specs.ReplayedCalls.{AreReported}
-use Rattle.sgt_c.proofs.replayed_calls.pass_from.Given as goal
+use Rattle.sgt_c.proofs.replayed_calls.pass.Given as goal
 
 abbrev pub invariant-loop-next : goal.invariant-loop-next
 invariant-loop-next l = record {
