@@ -32,6 +32,10 @@ fn most_answers_from(statement: &Statement, following: u8) -> u8
         Statement::If { yes, no, .. } => most_answers(yes, following).max(most_answers(
             no, following,
         )),
-        _ => following,
+        Statement::Look { .. }
+        | Statement::Find { .. }
+        | Statement::Put { .. }
+        | Statement::Remove { .. }
+        | Statement::Let { .. } => following,
     }
 }

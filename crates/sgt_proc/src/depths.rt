@@ -27,7 +27,13 @@ fn depth_of(statement: &Statement) -> u8
 {
     match statement {
         Statement::If { yes, no, .. } => one_deeper(depth(yes), depth(no)),
-        _ => 1,
+        Statement::Look { .. }
+        | Statement::Find { .. }
+        | Statement::Put { .. }
+        | Statement::Remove { .. }
+        | Statement::Let { .. }
+        | Statement::Ask { .. }
+        | Statement::Answer { .. } => 1,
     }
 }
 

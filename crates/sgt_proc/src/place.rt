@@ -425,6 +425,12 @@ fn branch_of<'a>(statement: &'a Statement, held: bool) -> &'a [Statement]
 {
     match statement {
         Statement::If { yes, no, .. } => { if held { yes.as_slice() } else { no.as_slice() } }
-        _ => &[],
+        Statement::Look { .. }
+        | Statement::Find { .. }
+        | Statement::Put { .. }
+        | Statement::Remove { .. }
+        | Statement::Let { .. }
+        | Statement::Ask { .. }
+        | Statement::Answer { .. } => &[],
     }
 }

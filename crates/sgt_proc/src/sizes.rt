@@ -27,6 +27,12 @@ fn size_of(statement: &Statement) -> u8
 {
     match statement {
         Statement::If { yes, no, .. } => (1 + size(yes) + size(no)).min(MOST_STATEMENTS + 1),
-        _ => 1,
+        Statement::Look { .. }
+        | Statement::Find { .. }
+        | Statement::Put { .. }
+        | Statement::Remove { .. }
+        | Statement::Let { .. }
+        | Statement::Ask { .. }
+        | Statement::Answer { .. } => 1,
     }
 }
