@@ -258,9 +258,22 @@ impl History {
             // Only a copy is passed to the call, so that a reply that its caller has just made is never written to memory.
             _ => {
                 let reply = *reply;
-                self.push_any(&Event::Step(t), &reply, lists)
+                self.push_other_step(t, &reply, lists)
             }
         }
+    }
+
+    // Adds a step with a reply of any kind. Its event is made here: made where `push_step` is compiled in, it would cost
+    // every step.
+    #[inline(never)]
+    fn push_other_step(&mut self, t: Tid, reply: &ShortReply, lists: &ReplyLists)
+        requires { 0 < self.old.spare }
+        ensures entries { self.new.entries
+            ≡ self.old.entries ++ record { event = Step t; reply = reply_with reply.now lists.now } ∷ [] }
+        ensures spare { self.new.spare + 1 ≡ self.old.spare }
+        ensures capacities { self.new.capacities ≡ self.old.capacities }
+    {
+        self.push_any(&Event::Step(t), reply, lists)
     }
 
     // Adds an entry of any kind.
