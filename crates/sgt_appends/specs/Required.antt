@@ -1,5 +1,5 @@
 -- The links that the graph has to have: for each read and each append.
-use Rattle.std.specs.Prelude.{◌≡◌, ◌≢◌, ◌⊎◌, ◌<◌, ◌+◌, ℕ, suc, List, Option, Some, None, length}
+use Rattle.std.specs.Prelude.{◌≡◌, ◌≢◌, ◌⊎◌, ◌<◌, ◌+◌, ◌^◌, ℕ, suc, List, Option, Some, None, length}
 use Rattle.std.proofs.Common.{get_or}
 use Rattle.std.specs.BTreeMap.{BTreeMap, get}
 use Rattle.std.specs.Ordering.{nat_cmp}
@@ -11,11 +11,20 @@ use Rattle.sgt_appends.specs.declared.transaction.Transaction.{Transaction}
 use Rattle.sgt_appends.specs.Lists.{Has}
 use Rattle.sgt_appends.specs.Runs.{Ended, MayRun}
 use Rattle.sgt_appends.specs.Graphs.{IsAmong, AreAmong}
-use Rattle.sgt_appends.specs.Indexes.{Positions, AppendAt, IsEarlier}
+use Rattle.sgt_appends.specs.Indexes.{Positions, AppendAt, IsEarlier, IsIndex}
+use Rattle.sgt_appends.specs.Orders.{AllClean}
 use Rattle.sgt_appends.specs.Reads.{IsReadAt}
-use Rattle.sgt_appends.specs.Lines.{KeyLines}
-use Rattle.sgt_appends.specs.Links.{IsKnownBy, IsFirstUnknown}
+use Rattle.sgt_appends.specs.Lines.{KeyLines, AreNumbered}
+use Rattle.sgt_appends.specs.Links.{IsKnownBy, IsFirstUnknown, AreAllIndexed}
 use Rattle.sgt_appends.specs.Meanings.{AreMeant}
+
+-- what links are made from: a history without faults, where its values are appended, and its lines, which have nodes too
+pub record CanLink (h : List Transaction) (at : Positions) (lines : KeyLines) (keys : List ℕ) : Type 0 where
+  pub index : IsIndex h at
+  pub clean : AllClean h
+  pub numbered : AreNumbered lines keys
+  pub indexed : AreAllIndexed at lines
+  pub fits : length h + length keys < 2 ^ 64
 
 -- the nodes are the same, or a link leads from the one to the other
 abbrev pub IsLinked : List Link → ℕ → ℕ → Type 0

@@ -14,7 +14,7 @@ ghost use Rattle.sgt_appends.specs.Indexes.{Positions, position_of, IsIndex, App
 ghost use Rattle.sgt_appends.specs.Lines.{line_in, keys_in, values_in, has_pair, AreNumbered};
 ghost use Rattle.sgt_appends.specs.Links.{has_number, IsKnownBy, IsFirstUnknown, AreIndexed, AreAllIndexed};
 ghost use Rattle.sgt_appends.specs.Meanings.{LeadsFromEnd, IsMeant};
-ghost use Rattle.sgt_appends.specs.Required.{IsLinked, AreMore, IsAdded, IsPaired, IsBefore, IsNextLink, AreNextLinked, reads_in, AreLongLinked, IsOwn, IsLastOther, IsSeenLink, IsLastLinked, IsMissTarget, IsMissLink, IsMissLinked, IsReadLinked, IsAppendLinkedAt, IsReadLinkedAt, IsEndBefore, AreLinked, AreAllLinked};
+ghost use Rattle.sgt_appends.specs.Required.{CanLink, IsLinked, AreMore, IsAdded, IsPaired, IsBefore, IsNextLink, AreNextLinked, reads_in, AreLongLinked, IsOwn, IsLastOther, IsSeenLink, IsLastLinked, IsMissTarget, IsMissLink, IsMissLinked, IsReadLinked, IsAppendLinkedAt, IsReadLinkedAt, IsEndBefore, AreLinked, AreAllLinked};
 
 use crate::append_index::AppendIndex;
 use crate::fault::starts_with;
@@ -27,6 +27,14 @@ use sgt_model::NoMemory;
 use std::alloc::Global;
 use std::collections::{BTreeMap, BTreeSet};
 
+/// A history without faults, with the index of its appends and its lines.
+#[derive(Clone, Copy)]
+struct Clean<'a> {
+    history: &'a [Transaction],
+    appends: &'a AppendIndex,
+    lines: &'a Lines,
+}
+
 /// The links from and to the transactions of the history.
 pub fn links_of(
     alloc: Global,
@@ -34,27 +42,19 @@ pub fn links_of(
     appends: &AppendIndex,
     lines: &Lines,
 ) -> Result<Vec<Link>, NoMemory>
-    requires index { IsIndex history.now (position_of appends.now) }
-    requires clean { AllClean history.now }
-    requires numbered { AreNumbered (line_in lines.now) (keys_in lines.now) }
-    requires indexed { AreAllIndexed (position_of appends.now) (line_in lines.now) }
-    requires fits { length history.now + length (keys_in lines.now) < 2 ^ 64 }
+    requires { CanLink history.now (position_of appends.now) (line_in lines.now) (keys_in lines.now) }
     ensures { IfOk result (λ links. AreAllLinked history.now (position_of appends.now) (line_in lines.now) (keys_in lines.now) links.items) }
 {
     let values = all_values(alloc, lines)?;
     let mut longest = BTreeMap::new(alloc);
     let mut links = Vec::new(alloc);
+    let clean = Clean {
+        history,
+        appends,
+        lines,
+    };
     for number in 0..history.len() {
-        add_transaction(
-            &mut links,
-            &mut longest,
-            alloc,
-            history,
-            appends,
-            lines,
-            &values,
-            number,
-        )?;
+        add_transaction(&mut links, &mut longest, alloc, clean, &values, number)?;
     }
     Ok(links)
 }
@@ -64,30 +64,22 @@ fn add_transaction(
     links: &mut Vec<Link>,
     longest: &mut BTreeMap<u32, (usize, usize)>,
     alloc: Global,
-    history: &[Transaction],
-    appends: &AppendIndex,
-    lines: &Lines,
+    clean: Clean<'_>,
     values: &BTreeSet<(u32, u64)>,
     number: usize,
 ) -> Result<(), NoMemory>
-    requires index { IsIndex history.now (position_of appends.now) }
-    requires clean { AllClean history.now }
-    requires numbered { AreNumbered (line_in lines.now) (keys_in lines.now) }
-    requires indexed { AreAllIndexed (position_of appends.now) (line_in lines.now) }
-    requires fits { length history.now + length (keys_in lines.now) < 2 ^ 64 }
-    requires values { (k v : ℕ) → has_pair values.now k v ↔ Has (values_in (line_in lines.now) k) v }
-    requires linked { AreLinked history.now (position_of appends.now) (line_in lines.now) (keys_in lines.now) links.old.items number 0 }
-    requires longest { AreLongLinked history.now (position_of appends.now) links.old.items (reads_in longest.old) }
-    ensures linked { OnOk result (AreLinked history.now (position_of appends.now) (line_in lines.now) (keys_in lines.now) links.new.items (number + 1) 0) }
-    ensures longest { OnOk result (AreLongLinked history.now (position_of appends.now) links.new.items (reads_in longest.new)) }
+    requires clean { CanLink clean.history.now (position_of clean.appends.now) (line_in clean.lines.now) (keys_in clean.lines.now) }
+    requires values { (k v : ℕ) → has_pair values.now k v ↔ Has (values_in (line_in clean.lines.now) k) v }
+    requires linked { AreLinked clean.history.now (position_of clean.appends.now) (line_in clean.lines.now) (keys_in clean.lines.now) links.old.items number 0 }
+    requires longest { AreLongLinked clean.history.now (position_of clean.appends.now) links.old.items (reads_in longest.old) }
+    ensures linked { OnOk result (AreLinked clean.entry.history.now (position_of clean.entry.appends.now) (line_in clean.entry.lines.now) (keys_in clean.entry.lines.now) links.new.items (number + 1) 0) }
+    ensures longest { OnOk result (AreLongLinked clean.entry.history.now (position_of clean.entry.appends.now) links.new.items (reads_in longest.new)) }
 {
-    let Some(transaction) = history.get(number) else {
+    let Some(transaction) = clean.history.get(number) else {
         return Ok(());
     };
     for position in 0..transaction.operations.len() {
-        add_position(
-            links, longest, alloc, history, appends, lines, values, number, position,
-        )?;
+        add_position(links, longest, alloc, clean, values, number, position)?;
     }
     Ok(())
 }
@@ -97,29 +89,21 @@ fn add_position(
     links: &mut Vec<Link>,
     longest: &mut BTreeMap<u32, (usize, usize)>,
     alloc: Global,
-    history: &[Transaction],
-    appends: &AppendIndex,
-    lines: &Lines,
+    clean: Clean<'_>,
     values: &BTreeSet<(u32, u64)>,
     number: usize,
     position: usize,
 ) -> Result<(), NoMemory>
-    requires index { IsIndex history.now (position_of appends.now) }
-    requires clean { AllClean history.now }
-    requires numbered { AreNumbered (line_in lines.now) (keys_in lines.now) }
-    requires indexed { AreAllIndexed (position_of appends.now) (line_in lines.now) }
-    requires fits { length history.now + length (keys_in lines.now) < 2 ^ 64 }
-    requires values { (k v : ℕ) → has_pair values.now k v ↔ Has (values_in (line_in lines.now) k) v }
-    requires longest { AreLongLinked history.now (position_of appends.now) links.old.items (reads_in longest.old) }
-    ensures more { OnOk result (AreMore links.old.items links.new.items (IsMeant history.now (line_in lines.now) (keys_in lines.now))) }
-    ensures read { OnOk result (IsReadLinkedAt history.now (position_of appends.now) (line_in lines.now) links.new.items number position) }
-    ensures append { OnOk result (IsAppendLinkedAt history.now (line_in lines.now) links.new.items number position) }
-    ensures longest { OnOk result (AreLongLinked history.now (position_of appends.now) links.new.items (reads_in longest.new)) }
+    requires clean { CanLink clean.history.now (position_of clean.appends.now) (line_in clean.lines.now) (keys_in clean.lines.now) }
+    requires values { (k v : ℕ) → has_pair values.now k v ↔ Has (values_in (line_in clean.lines.now) k) v }
+    requires longest { AreLongLinked clean.history.now (position_of clean.appends.now) links.old.items (reads_in longest.old) }
+    ensures more { OnOk result (AreMore links.old.items links.new.items (IsMeant clean.entry.history.now (line_in clean.entry.lines.now) (keys_in clean.entry.lines.now))) }
+    ensures read { OnOk result (IsReadLinkedAt clean.entry.history.now (position_of clean.entry.appends.now) (line_in clean.entry.lines.now) links.new.items number position) }
+    ensures append { OnOk result (IsAppendLinkedAt clean.entry.history.now (line_in clean.entry.lines.now) links.new.items number position) }
+    ensures longest { OnOk result (AreLongLinked clean.entry.history.now (position_of clean.entry.appends.now) links.new.items (reads_in longest.new)) }
 {
-    add_read(
-        links, longest, alloc, history, appends, lines, number, position,
-    )?;
-    add_unseen(links, history, lines, values, number, position)?;
+    add_read(links, longest, alloc, clean, number, position)?;
+    add_unseen(links, clean.history, clean.lines, values, number, position)?;
     Ok(())
 }
 
@@ -128,27 +112,28 @@ fn add_read(
     links: &mut Vec<Link>,
     longest: &mut BTreeMap<u32, (usize, usize)>,
     alloc: Global,
-    history: &[Transaction],
-    appends: &AppendIndex,
-    lines: &Lines,
+    clean: Clean<'_>,
     number: usize,
     position: usize,
 ) -> Result<(), NoMemory>
-    requires index { IsIndex history.now (position_of appends.now) }
-    requires clean { AllClean history.now }
-    requires numbered { AreNumbered (line_in lines.now) (keys_in lines.now) }
-    requires indexed { AreAllIndexed (position_of appends.now) (line_in lines.now) }
-    requires fits { length history.now + length (keys_in lines.now) < 2 ^ 64 }
-    requires longest { AreLongLinked history.now (position_of appends.now) links.old.items (reads_in longest.old) }
-    ensures more { OnOk result (AreMore links.old.items links.new.items (IsMeant history.now (line_in lines.now) (keys_in lines.now))) }
-    ensures linked { OnOk result (IsReadLinkedAt history.now (position_of appends.now) (line_in lines.now) links.new.items number position) }
-    ensures longest { OnOk result (AreLongLinked history.now (position_of appends.now) links.new.items (reads_in longest.new)) }
+    requires clean { CanLink clean.history.now (position_of clean.appends.now) (line_in clean.lines.now) (keys_in clean.lines.now) }
+    requires longest { AreLongLinked clean.history.now (position_of clean.appends.now) links.old.items (reads_in longest.old) }
+    ensures more { OnOk result (AreMore links.old.items links.new.items (IsMeant clean.entry.history.now (line_in clean.entry.lines.now) (keys_in clean.entry.lines.now))) }
+    ensures linked { OnOk result (IsReadLinkedAt clean.entry.history.now (position_of clean.entry.appends.now) (line_in clean.entry.lines.now) links.new.items number position) }
+    ensures longest { OnOk result (AreLongLinked clean.entry.history.now (position_of clean.entry.appends.now) links.new.items (reads_in longest.new)) }
 {
-    match read_of(history, number, position) {
+    match read_of(clean.history, number, position) {
         Some(read) => {
-            add_next(links, longest, history, appends, read)?;
-            add_last(links, appends, read)?;
-            add_missed(links, alloc, history.len(), appends, lines, read)?;
+            add_next(links, longest, clean.history, clean.appends, read)?;
+            add_last(links, clean.appends, read)?;
+            add_missed(
+                links,
+                alloc,
+                clean.history.len(),
+                clean.appends,
+                clean.lines,
+                read,
+            )?;
             Ok(())
         }
         None => Ok(()),

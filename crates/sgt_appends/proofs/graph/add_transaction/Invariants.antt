@@ -5,6 +5,6 @@ use Rattle.sgt_appends.proofs.graph.add_transaction.Given as goal
 
 abbrev pub invariant-loop-position : goal.invariant-loop-position
 invariant-loop-position l = record {
-  linked : AreLinked l.history (position_of l.appends) (line_in l.lines) (keys_in l.lines) l.links.items l.number l.position;
-  longest : AreLongLinked l.history (position_of l.appends) l.links.items (reads_in l.longest);
+  linked : AreLinked l.clean.history.now (position_of l.clean.appends.now) (line_in l.clean.lines.now) (keys_in l.clean.lines.now) l.links.items l.number l.position;
+  longest : AreLongLinked l.clean.history.now (position_of l.clean.appends.now) l.links.items (reads_in l.longest);
 }

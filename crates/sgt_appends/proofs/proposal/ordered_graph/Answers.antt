@@ -4,10 +4,12 @@ use Rattle.sgt_appends.specs.Lines.{line_in}
 use Rattle.sgt_appends.proofs.Versions.{lines_indexed}
 use Rattle.sgt_appends.proofs.proposal.ordered_graph.Goals as goal
 
-pub links_of-requires-clause-indexed : goal.links_of-requires-clause-indexed
-links_of-requires-clause-indexed c =
-    lines_indexed c.args.history.now (position_of c.args.appends.now) (line_in c.in_ok-lines.lines) c.requires.index
-    c.in_ok-lines.ensures.written
-
-pub links_of-requires-clause-fits : goal.links_of-requires-clause-fits
-links_of-requires-clause-fits c = omega (arith, c.in-Some.ensures.0, c.len.ensures)
+pub links_of-requires : goal.links_of-requires
+links_of-requires c = record {
+  index = c.requires.index;
+  clean = c.requires.clean;
+  numbered = c.in_ok-lines.ensures.lines.numbered;
+  indexed = lines_indexed c.args.history.now (position_of c.args.appends.now) (line_in c.in_ok-lines.lines) c.requires.index
+      c.in_ok-lines.ensures.written;
+  fits = omega (arith, c.in-Some.ensures.0, c.len.ensures);
+}
