@@ -4,9 +4,9 @@ ghost use Rattle.sgt_workers.specs.Crews.{IsRunError, KeepsConsumers};
 
 use crate::errors::PoolError;
 use crate::gate::Gate;
-use crate::worker::{Ended, SameQueue, Worker, work};
+use crate::worker::{Ended, SameQueue, Worker, Workload, work};
 use sgt_access::Accesses;
-use sgt_audit::{Job, Outcome};
+use sgt_audit::Outcome;
 use sgt_dispatch::{Feed, Putter, Taker};
 use sgt_graph::Graph;
 use sgt_records::Records;
@@ -18,7 +18,7 @@ use std::thread;
 use std::thread::{PromisedHandle, Scope, Threads};
 
 /// Runs the jobs in a thread for each session. Returns the sessions, with the producer of the jobs, which has joined
-/// what each worker received. Each worker reserves capacity for this many calls.
+/// what each worker received.
 ///
 /// `NoMemory` if an allocation failed; `Spawn` if a thread could not be made: then no job was put; `Mismatch` if a
 /// worker got an unexpected reply.
@@ -35,9 +35,7 @@ pub fn run_sessions<
     shared: &Shared<N, R, A, G>,
     gate: &T,
     outcomes: &Mutex<Vec<Outcome<T::Note>>>,
-    jobs: &[Job],
-    tries: u32,
-    calls: usize,
+    workload: Workload<'_>,
     sessions: Vec<Session<N>>,
 ) -> Result<(Putter, Vec<Session<N>>), PoolError>
     requires { vec_len sessions ≤ 16 }
@@ -46,13 +44,11 @@ pub fn run_sessions<
 {
     // The queue holds the numbers of all batches at once, so that sending one never waits for capacity.
     let batch = batch_size(sessions.len(), gate.most_at_once());
-    let batches = jobs.len().div_ceil(batch);
+    let batches = workload.jobs.len().div_ceil(batch);
     let Ok((producer, consumers)) = Feed::make_for(alloc, batches, sessions.len()) else {
         return Err(PoolError::NoMemory);
     };
-    let team = team_of(
-        alloc, jobs, batch, tries, calls, &producer, sessions, consumers,
-    )?;
+    let team = team_of(alloc, workload, batch, &producer, sessions, consumers)?;
     let (producer, ended) = run_pool(rt, alloc, shared, gate, outcomes, batches, producer, team)?;
     join_passes(alloc, producer, ended)
 }
@@ -68,13 +64,11 @@ fn batch_size(workers: usize, most: usize) -> usize
     most.max(1)
 }
 
-/// A worker for each session and consumer, with capacity reserved for this many calls.
+/// A worker for each session and consumer.
 fn team_of<'a, N: Named>(
     alloc: Global,
-    jobs: &'a [Job],
+    workload: Workload<'a>,
     batch: usize,
-    tries: u32,
-    calls: usize,
     producer: &Putter,
     sessions: Vec<Session<N>>,
     consumers: Vec<Taker>,
@@ -97,10 +91,8 @@ fn team_of<'a, N: Named>(
         };
         team.push_reserved(Worker {
             number,
-            jobs,
+            workload,
             batch,
-            tries,
-            calls,
             alloc,
             session,
             consumer,

@@ -11,6 +11,7 @@ use crate::errors::PoolError;
 use crate::gate::Gate;
 use crate::pool::run_sessions;
 use crate::report::{Report, report_of};
+use crate::worker::Workload;
 use sgt_access::Accesses;
 use sgt_audit::{Job, Outcome};
 use sgt_engine::Engine;
@@ -103,6 +104,7 @@ fn run_bank<R: Records, A: Accesses, G: Graph, T: Gate + Sync, W: Threads + Wait
     // reservation fails, the lists grow as they need.
     let calls = jobs.len().saturating_mul(CALLS_OF_A_JOB);
     let _ = engine.reserve(calls);
+    let workload = Workload { jobs, tries, calls };
     let Ok(engine) = Box::new(alloc, engine) else {
         return Err(PoolError::NoMemory);
     };
@@ -113,16 +115,14 @@ fn run_bank<R: Records, A: Accesses, G: Graph, T: Gate + Sync, W: Threads + Wait
         engine,
         blank,
         &outcomes,
-        jobs,
+        workload,
         workers as u16,
-        tries,
-        calls,
         gate,
     )?;
     Ok((engine, outcomes.into_inner()))
 }
 
-/// Runs the jobs under a name for the engine, with capacity for this many calls. Returns the engine and the outcomes.
+/// Runs the jobs under a name for the engine. Its workers share the calls of the workload. Returns the engine.
 fn run_named<
     N: Named + Send + Sync,
     R: Records,
@@ -136,10 +136,8 @@ fn run_named<
     engine: Box<Engine<R, A, G>>,
     blank: Blank,
     outcomes: &Mutex<Vec<Outcome<T::Note>>>,
-    jobs: &[Job],
+    workload: Workload<'_>,
     workers: u16,
-    tries: u32,
-    calls: usize,
     gate: &T,
 ) -> Result<Box<Engine<R, A, G>>, PoolError>
     requires engine { (made_with engine.value ≡ N.configuration) × (engine.value.past ≡ []) }
@@ -151,10 +149,9 @@ fn run_named<
     let Ok((shared, sessions)) = Shared::<N, R, A, G>::new(alloc, engine, blank, workers) else {
         return Err(PoolError::NoMemory);
     };
-    let calls = calls / usize::from(workers);
-    let (_producer, sessions) = run_sessions(
-        rt, alloc, &shared, gate, outcomes, jobs, tries, calls, sessions,
-    )?;
+    let calls = workload.calls / usize::from(workers);
+    let share = Workload { calls, ..workload };
+    let (_producer, sessions) = run_sessions(rt, alloc, &shared, gate, outcomes, share, sessions)?;
     let Ok(
         Closed {
             engine,

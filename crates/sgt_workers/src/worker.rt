@@ -14,18 +14,24 @@ use std::snapshot::Snapshot;
 use std::sync::{Mutex, Wait};
 use std::thread::Promise;
 
-/// The input of one worker.
-#[derive(Drop)]
-pub struct Worker<'a, N: Named> {
-    pub number: u8,
-    /// The jobs of the run, by their numbers.
+/// The jobs of a run, and how a worker runs them.
+#[derive(Clone, Copy)]
+pub struct Workload<'a> {
+    /// The jobs, by their numbers.
     pub jobs: &'a [Job],
-    /// How many jobs a batch has. The queue holds the numbers of batches.
-    pub batch: usize,
     /// The most attempts at a job.
     pub tries: u32,
     /// For how many calls it reserves capacity in advance, if it can.
     pub calls: usize,
+}
+
+/// The input of one worker.
+#[derive(Drop)]
+pub struct Worker<'a, N: Named> {
+    pub number: u8,
+    pub workload: Workload<'a>,
+    /// How many jobs a batch has. The queue holds the numbers of batches.
+    pub batch: usize,
     /// Where it stores the attempts at a job.
     pub alloc: Global,
     pub session: Session<N>,
@@ -62,15 +68,13 @@ pub fn work<N: Named, R: Records, A: Accesses, G: Graph, T: Gate, W: Wait>(
 {
     let Worker {
         number,
-        jobs,
+        workload,
         batch,
-        tries,
-        calls,
         alloc,
         mut session,
         mut consumer,
     } = worker;
-    let _ = session.reserve(calls);
+    let _ = session.reserve(workload.calls);
     let mut caller = Caller {
         rt,
         shared,
@@ -80,10 +84,10 @@ pub fn work<N: Named, R: Records, A: Accesses, G: Graph, T: Gate, W: Wait>(
     };
     let mut is_expected = true;
     for _ in rt.forever() {
-        let Some(taken) = next_batch(rt, &mut consumer, jobs, batch) else {
+        let Some(taken) = next_batch(rt, &mut consumer, workload.jobs, batch) else {
             break;
         };
-        let Ok(goes_on) = run_batch(&mut caller, alloc, outcomes, taken, tries) else {
+        let Ok(goes_on) = run_batch(&mut caller, alloc, outcomes, taken, workload.tries) else {
             is_expected = false;
             break;
         };
