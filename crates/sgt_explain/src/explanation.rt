@@ -43,18 +43,35 @@ pub fn append_explanation(
         place,
         lines,
     };
-    if let Some(Pending { key, kind }) = pending {
-        for number in 0..MOST {
-            if let Some(edge) = cycle_edge(history, place, number, key, kind) {
-                explained.append_edge(&edge)?;
-            }
+    if let Some(pending) = pending {
+        append_edges(&mut explained, history, pending)?;
+    }
+    append_sources(&mut explained, history)?;
+    text.extend_from_slice(explained.text.as_slice())?;
+    Ok(())
+}
+
+// Appends a line for each edge of the cycle by which the entry aborts a transaction.
+fn append_edges(
+    explained: &mut Explained<'_>,
+    history: &IndexedHistory,
+    pending: Pending,
+) -> Result<(), NoMemory> {
+    let Pending { key, kind } = pending;
+    for number in 0..MOST {
+        if let Some(edge) = cycle_edge(history, explained.place, number, key, kind) {
+            explained.append_edge(&edge)?;
         }
     }
+    Ok(())
+}
+
+// Appends a line for each transaction that the entry aborts in cascade.
+fn append_sources(explained: &mut Explained<'_>, history: &IndexedHistory) -> Result<(), NoMemory> {
     for number in 0..MOST {
-        if let Some(source) = fall_source(history, place, number) {
+        if let Some(source) = fall_source(history, explained.place, number) {
             explained.append_source(&source)?;
         }
     }
-    text.extend_from_slice(explained.text.as_slice())?;
     Ok(())
 }

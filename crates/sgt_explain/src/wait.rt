@@ -1,5 +1,5 @@
 //! The lines that say why a commit waits, and on which uncommitted values a code may rest.
-ghost use Rattle.std.specs.Prelude.{◌≡◌, ◌<◌, take, length, IsSome, OnErr, vec_len};
+ghost use Rattle.std.specs.Prelude.{◌≡◌, ◌<◌, ◌≤◌, take, length, IsSome, OnErr, vec_len};
 
 use crate::edge::pair_edge;
 use crate::indexed_history::IndexedHistory;
@@ -33,23 +33,51 @@ pub fn append_live_causes(
         lines,
     };
     if let Some(waiting) = waiting_at(history, place) {
-        for t in live {
-            if *t == waiting {
-                continue;
-            }
-            if let Some(edge) = pair_edge(history, place, *t, waiting) {
-                explained.append_wait(&edge)?;
-            }
-        }
+        append_waits(&mut explained, history, place, live, waiting)?;
     }
     if let Some(reader) = coded_at(history, place) {
-        for t in live {
-            if let Some(read) = read_from(history, place, reader, *t) {
-                explained.append_unsettled(&read)?;
-            }
-        }
+        append_reads(&mut explained, history, place, live, reader)?;
     }
     text.extend_from_slice(explained.text.as_slice())?;
+    Ok(())
+}
+
+// Appends a line for each live transaction that comes before the one whose commit waits at this position.
+fn append_waits(
+    explained: &mut Explained<'_>,
+    history: &IndexedHistory,
+    place: usize,
+    live: &[Tid],
+    waiting: Tid,
+) -> Result<(), NoMemory>
+    requires { place ≤ length history.now }
+{
+    for t in live {
+        if *t == waiting {
+            continue;
+        }
+        if let Some(edge) = pair_edge(history, place, *t, waiting) {
+            explained.append_wait(&edge)?;
+        }
+    }
+    Ok(())
+}
+
+// Appends a line for each live transaction of which the reader had read a value before this position.
+fn append_reads(
+    explained: &mut Explained<'_>,
+    history: &IndexedHistory,
+    place: usize,
+    live: &[Tid],
+    reader: Tid,
+) -> Result<(), NoMemory>
+    requires { place ≤ length history.now }
+{
+    for t in live {
+        if let Some(read) = read_from(history, place, reader, *t) {
+            explained.append_unsettled(&read)?;
+        }
+    }
     Ok(())
 }
 
