@@ -14,14 +14,14 @@ use std::snapshot::Snapshot;
 use std::sync::{Mutex, Wait};
 use std::thread::Promise;
 
-/// The jobs of a run, and how a worker runs them.
+/// The jobs of a run, and how they are run.
 #[derive(Clone, Copy)]
 pub struct Workload<'a> {
     /// The jobs, by their numbers.
     pub jobs: &'a [Job],
     /// The most attempts at a job.
     pub tries: u32,
-    /// For how many calls it reserves capacity in advance, if it can.
+    /// For how many calls capacity is reserved in advance, if it can be.
     pub calls: usize,
 }
 
