@@ -439,7 +439,7 @@ def explains_accesses_of_callers(sgt):
 """
     replies = "started 0\nstarted 1\nread 1/101 500\nread 0/1 101\nread 1/101 500\nread 2/101 1000\nwrote 1/101 1\n"
     replies += "aborted cycle 0 1 fell none\nstarted 2\nread 1/101 1\naborted quit fell 2\nstarted 3\n"
-    reported = "line 9: 1 wrote 1/101 at line 8, which 0 read at line 4\nline 9: 0 would write 2/101, which 1 read at line 7\n"
+    reported = "line 9: 1 wrote 1/101 at line 8, which 0 read at line 4\nline 9: 0 would remove 2/101, which 1 read at line 7\n"
     reported += "line 12: 2 read 1/101 of 1 at line 11\n1 transaction is live at the end: 3\n"
     sgt.expect("script", "--explain", given=given, out=replies + RECORDS, err=reported)
 

@@ -120,7 +120,7 @@ class Part:
         self.calls = {}  # of each that was started
         self.live = set()
         self.gone = set()  # those that were aborted or fell
-        self.accesses = []  # line, whose, "read" or "wrote", key, from whom a read was
+        self.accesses = []  # line, whose, "read", "wrote" or "removed", key, what was read or written, from whom a read was
 
     def take(self, line, event, reply):
         """The texts that tell of an abort."""
@@ -130,8 +130,7 @@ class Part:
             self.calls[int(match[1])] = (EMPTY, []) if kind == "begin" else rest
             self.live.add(int(match[1]))
         elif match := re.fullmatch("(read|wrote|removed) ([0-9]+/-?[0-9]+)(?: (.*))?", reply):
-            done = "read" if match[1] == "read" else "wrote"
-            self.accesses.append((line, first, done, match[2], match[3], self.source(match[2])))
+            self.accesses.append((line, first, match[1], match[2], match[3], self.source(match[2])))
         elif reply in ("bad args", "no procedure", "spent", "full", "unknown", "not ended"):
             return [refusal(event, reply) + " since the cut" * (reply == "unknown" and self.is_after_cut)]
         elif reply.startswith("over "):
@@ -156,14 +155,15 @@ class Part:
 
     def source(self, key):
         """Whose write a read of the key finds, if one of those that were not aborted by now has written it."""
-        stores = [whose for _, whose, done, other, *_ in self.accesses if done == "wrote" and other == key and whose not in self.gone]
+        stores = [whose for _, whose, done, other, *_ in self.accesses if done != "read" and other == key and whose not in self.gone]
         return stores[-1] if stores else None
 
     def conflicting(self, t, done, key, accesses):
         """The first look and the first store of the key by a transaction that conflict with such an access, as text."""
-        looks = [line for line, whose, did, other, *_ in accesses if (whose, did, other) == (t, "read", key) and done == "wrote"]
-        stores = [line for line, whose, did, other, *_ in accesses if (whose, did, other) == (t, "wrote", key)]
-        return " and".join([f" read at line {line}" for line in looks[:1]] + [f" wrote at line {line}" for line in stores[:1]])
+        own = [(did, line) for line, whose, did, other, *_ in accesses if (whose, other) == (t, key)]
+        looks = [(did, line) for did, line in own if did == "read" and done != "read"]
+        stores = [(did, line) for did, line in own if did != "read"]
+        return " and".join(f" {did} at line {line}" for did, line in looks[:1] + stores[:1])
 
     def edge(self, t, u):
         """By the first access of the second that conflicts with one of the first before it. None if there is no such."""
@@ -176,15 +176,15 @@ class Part:
     def pending(self, t, u, event):
         """By the access that the second was about to make: that of its caller's line, or that of its procedure."""
         if event[0] in REQUESTS:
-            kind, key = REQUESTS[event[0]], tuple(event[2:4])
+            would, key = event[0], tuple(event[2:4])
         else:
             run = Run(*self.calls[u])
             for _, whose, done, _, value, _ in self.accesses:
                 if whose == u:
-                    run.go(None if done == "wrote" or value == "none" else int(value))
-            kind, key, _ = run.access
-        would, done = ("read", "read") if kind == "look" else ("write", "wrote")
-        return f"{u} would {would} {key_text(key)}, which {t}{self.conflicting(t, done, key_text(key), self.accesses)}"
+                    run.go(None if done != "read" or value == "none" else int(value))
+            kind, key, stored = run.access
+            would = "read" if kind == "look" else "remove" if stored is None else "write"
+        return f"{u} would {would} {key_text(key)}, which {t}{self.conflicting(t, would, key_text(key), self.accesses)}"
 
     def unsettled(self, u, live):
         """By its first read of a value of each of these."""

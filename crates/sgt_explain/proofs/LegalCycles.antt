@@ -23,6 +23,7 @@ use Rattle.sgt_model.proofs.Facts.{some_is}
 use Rattle.sgt_model.proofs.NoOrder.{pair_made}
 use Rattle.sgt_model.proofs.Paths.{last_is_member}
 use Rattle.sgt_explain.specs.declared.edge.CycleEdge.{CycleEdge}
+use Rattle.sgt_explain.specs.declared.explanation.Pending.{Pending}
 use Rattle.sgt_explain.specs.Places.{entries_before, cycle_in, listed_by, placed_cycle}
 use Rattle.sgt_explain.specs.CycleEdges.{ReportsFrom, ReportsEdge, HasEdgeFrom, HasEdge, wanted_by, WasAbout, IsPairAt}
 use Rattle.sgt_explain.proofs.Prefixes.{entry_there, legal_there}
@@ -80,19 +81,19 @@ edge_from entries end t k kind None next h = h
 edge_from entries end t k kind (Some a) (Some b) h = h.precedes
 edge_from entries end t k kind (Some a) None h = h.conflict
 
-pair_from : (entries : List Entry) (end t : ℕ) (k : Key) (kind : Kind) (edge : CycleEdge) (one next first : Option ℕ) → first ≡ Some t
-    → Along (Pair (entries_before entries end)) (Closing (entries_before entries end) t k kind) one next
-    → ReportsFrom entries end k kind edge one next first
+pair_from : (entries : List Entry) (end t : ℕ) (p : Pending) (edge : CycleEdge) (one next first : Option ℕ) → first ≡ Some t
+    → Along (Pair (entries_before entries end)) (Closing (entries_before entries end) t p.key p.kind) one next
+    → ReportsFrom entries end p edge one next first
     → IsPairAt entries end edge
-pair_from entries end t k kind edge None next first is along reported = absurd along
-pair_from entries end t k kind edge (Some a) (Some b) first is along reported =
+pair_from entries end t p edge None next first is along reported = absurd along
+pair_from entries end t p edge (Some a) (Some b) first is along reported =
     let access = reported.access in
     rw (access.place_is, access.from, access.to) along
-pair_from entries end t k kind edge (Some a) None None is along reported = absurd reported
-pair_from entries end t k kind edge (Some a) None (Some u) is along reported =
+pair_from entries end t p edge (Some a) None None is along reported = absurd reported
+pair_from entries end t p edge (Some a) None (Some u) is along reported =
     let first : u ≡ t = some_is u t is in
     rw (reported.place_is, reported.from, reported.to, reported.key_is, reported.kind_is, first) (λ e by.
-    pair_made e (entries_before entries end) t k kind by a along.apart along.last_stands along.first_stands along.conflict)
+    pair_made e (entries_before entries end) t p.key p.kind by a along.apart along.last_stands along.first_stands along.conflict)
 
 -- the cycle of a legal abort
 
@@ -154,26 +155,27 @@ edges_are_there s entries place n k kind within legal about below =
     (edge_from entries place w.t k kind _ _ (along_closed (entries_before entries place) w.t k kind w.rest w.closes n short))
 
 -- and the edge returned is a conflict
-reported_is_pair : (s : Configuration) (entries : List Entry) (place n : ℕ) (k : Key) (kind : Kind) (edge : CycleEdge) → place < length entries
-    → Legal s (reverse entries) → WasAbout s entries place k kind → n < length (placed_cycle entries place)
-    → ReportsEdge entries place k kind (placed_cycle entries place) n edge → IsPairAt entries place edge
-reported_is_pair s entries place n k kind edge within legal about below reported =
-    let w = path_at s entries place n k kind within legal about below in
+reported_is_pair : (s : Configuration) (entries : List Entry) (place n : ℕ) (p : Pending) (edge : CycleEdge) → place < length entries
+    → Legal s (reverse entries) → WasAbout s entries place p.key p.kind → n < length (placed_cycle entries place)
+    → ReportsEdge entries place p (placed_cycle entries place) n edge → IsPairAt entries place edge
+reported_is_pair s entries place n p edge within legal about below reported =
+    let w = path_at s entries place n p.key p.kind within legal about below in
     let short : n < length (w.t ∷ w.rest) = subst (λ l. n < length l) w.cycle below in
-    let reported_here = subst (λ l. ReportsEdge entries place k kind l n edge) w.cycle reported in
-    pair_from entries place w.t k kind edge _ _ _ refl (along_closed (entries_before entries place)
-    w.t k kind w.rest w.closes n short) reported_here
+    let reported_here = subst (λ l. ReportsEdge entries place p l n edge) w.cycle reported in
+    pair_from entries place w.t p edge _ _ _ refl (along_closed (entries_before entries place)
+    w.t p.key p.kind w.rest w.closes n short) reported_here
 
 one_there : (entries : List Entry) (end : ℕ) (k : Key) (kind : Kind) (one next : Option ℕ) → HasEdgeFrom entries end k kind one next
     → (t : ℕ) × (one ≡ Some t)
 one_there entries end k kind None next h = absurd h
 one_there entries end k kind (Some t) next h = (t, refl)
 
-pub reported_are_pairs : (entries : List Entry) (place n : ℕ) (k : Key) (kind : Kind) → place < length entries → (reported : Option CycleEdge)
-    → IfSome reported (ReportsEdge entries place k kind (placed_cycle entries place) n)
-    → (IsSome reported → HasEdge entries place k kind (placed_cycle entries place) n)
-    → IfSome reported (λ edge. (s : Configuration) → Legal s (reverse entries) → WasAbout s entries place k kind → IsPairAt entries place edge)
-reported_are_pairs entries place n k kind within None reports there = tt
-reported_are_pairs entries place n k kind within (Some edge) reports there = λ s legal about.
-    let (t, is) = one_there entries place k kind _ _ (there refl) in
-    reported_is_pair s entries place n k kind edge within legal about (slice_get_within (placed_cycle entries place) n t is) reports
+pub reported_are_pairs : (entries : List Entry) (place n : ℕ) (p : Pending) → place < length entries → (reported : Option CycleEdge)
+    → IfSome reported (ReportsEdge entries place p (placed_cycle entries place) n)
+    → (IsSome reported → HasEdge entries place p.key p.kind (placed_cycle entries place) n)
+    → IfSome reported (λ edge. (s : Configuration) → Legal s (reverse entries) → WasAbout s entries place p.key p.kind
+    → IsPairAt entries place edge)
+reported_are_pairs entries place n p within None reports there = tt
+reported_are_pairs entries place n p within (Some edge) reports there = λ s legal about.
+    let (t, is) = one_there entries place p.key p.kind _ _ (there refl) in
+    reported_is_pair s entries place n p edge within legal about (slice_get_within (placed_cycle entries place) n t is) reports

@@ -1,5 +1,6 @@
 -- The edges of the cycle by which an entry aborts a transaction, and that they are conflicts.
-use Rattle.std.specs.Prelude.{◌≡◌, ◌+◌, ℕ, true, List, ◌∷◌, Option, Some, None, slice_get}
+use Rattle.std.specs.Prelude.{◌≡◌, ◌+◌, ℕ, true, false, List, ◌∷◌, Option, Some, None, slice_get}
+use Rattle.std.specs.Option.{is_none}
 use Rattle.sgt_model.specs.declared.entry.Entry.{Entry}
 use Rattle.sgt_model.specs.declared.kind.Kind.{Kind}
 use Rattle.sgt_model.specs.declared.kind.Kind.TheVariants.{Look, Store}
@@ -20,17 +21,17 @@ use Rattle.sgt_explain.specs.Places.{entries_before}
 use Rattle.sgt_explain.specs.Edges.{ReportsPair, ReportsPending}
 
 -- an edge of a cycle leads from one to the next, and from the last, which has no next, to the first. That last edge
--- is caused by an access of that kind of the key, which the first was about to make after the entries before the end
-abbrev pub ReportsFrom : List Entry → (end : ℕ) → Key → Kind → CycleEdge → (one next first : Option ℕ) → Type 0
-ReportsFrom entries end key kind edge None next first = ⊥
-ReportsFrom entries end key kind edge (Some t) (Some u) first = ReportsPair entries end t u edge
-ReportsFrom entries end key kind edge (Some t) None None = ⊥
-ReportsFrom entries end key kind edge (Some t) None (Some u) = ReportsPending entries end t u key kind edge
+-- is caused by the access that the first was about to make after the entries before the end
+abbrev pub ReportsFrom : List Entry → (end : ℕ) → Pending → CycleEdge → (one next first : Option ℕ) → Type 0
+ReportsFrom entries end pending edge None next first = ⊥
+ReportsFrom entries end pending edge (Some t) (Some u) first = ReportsPair entries end t u edge
+ReportsFrom entries end pending edge (Some t) None None = ⊥
+ReportsFrom entries end pending edge (Some t) None (Some u) = ReportsPending entries end t u pending edge
 
 -- this is edge number n of the cycle, from 0
-abbrev pub ReportsEdge : List Entry → (end : ℕ) → Key → Kind → List ℕ → (n : ℕ) → CycleEdge → Type 0
-ReportsEdge entries end key kind cycle n edge =
-    ReportsFrom entries end key kind edge (slice_get cycle n) (slice_get cycle (n + 1)) (slice_get cycle 0)
+abbrev pub ReportsEdge : List Entry → (end : ℕ) → Pending → List ℕ → (n : ℕ) → CycleEdge → Type 0
+ReportsEdge entries end pending cycle n edge =
+    ReportsFrom entries end pending edge (slice_get cycle n) (slice_get cycle (n + 1)) (slice_get cycle 0)
 
 -- one comes before the next; and the last, which has no next, would come before one that made that access
 abbrev pub HasEdgeFrom : List Entry → (end : ℕ) → Key → Kind → (one next : Option ℕ) → Type 0
@@ -42,10 +43,10 @@ HasEdgeFrom entries end key kind (Some t) None = has_conflicting (entries_before
 abbrev pub HasEdge : List Entry → (end : ℕ) → Key → Kind → List ℕ → (n : ℕ) → Type 0
 HasEdge entries end key kind cycle n = HasEdgeFrom entries end key kind (slice_get cycle n) (slice_get cycle (n + 1))
 
--- the access that an event requests for a caller, if it does
+-- the access that an event requests for a caller, if it does; a write of no value removes the record
 abbrev pub requested_access : Event → Option Pending
-requested_access (event.Access t (Read k)) = Some (record { key = k; kind = Look })
-requested_access (event.Access t (Write k v)) = Some (record { key = k; kind = Store })
+requested_access (event.Access t (Read k)) = Some (record { key = k; kind = Look; removes = false })
+requested_access (event.Access t (Write k v)) = Some (record { key = k; kind = Store; removes = is_none v })
 requested_access _ = None
 
 -- what t would do by an event: the access that its caller requests, or else what its procedure does next

@@ -1,10 +1,10 @@
 -- Positions of entries in a history, oldest entry first: the number of entries before them.
-use Rattle.std.specs.Prelude.{ℕ, List, [], Option, Some, None, take, reverse, slice_get}
-use Rattle.std.specs.Option.{option_and_then}
+use Rattle.std.specs.Prelude.{◌&&◌, ℕ, Bool, false, List, [], Option, Some, None, take, reverse, slice_get}
+use Rattle.std.specs.Option.{option_and_then, is_none}
 use Rattle.sgt_model.specs.declared.entry.Entry.{Entry}
 use Rattle.sgt_model.specs.declared.reply.Reply.{Reply}
 use Rattle.sgt_model.specs.declared.reply.Reply.TheVariants as reply
-use Rattle.sgt_model.specs.Accesses.{Access, access_of}
+use Rattle.sgt_model.specs.Accesses.{Access, access_of, is_store}
 use Rattle.sgt_model.specs.Questions.{named_by}
 use Rattle.sgt_model.specs.ShortReplies.{cause_cycle, fell_in}
 
@@ -15,6 +15,16 @@ entries_before entries place = reverse (take place entries)
 -- the access at this position, if an entry is there that is one
 abbrev pub placed_access : List Entry → ℕ → Option Access
 placed_access entries place = option_and_then access_of (slice_get entries place)
+
+-- the access removes the record: it is a write of no value
+abbrev pub is_removal : Option Access → Bool
+is_removal None = false
+is_removal (Some a) = is_store a.kind && is_none a.value
+
+-- the access at this position, if there is one, removes the record
+abbrev pub removes_at : List Entry → Option ℕ → Bool
+removes_at entries None = false
+removes_at entries (Some place) = is_removal (placed_access entries place)
 
 -- the cycle of an abort by a cycle; empty for any other reply
 abbrev pub cycle_in : Reply → List ℕ

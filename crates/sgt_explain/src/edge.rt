@@ -7,6 +7,7 @@ ghost use Rattle.sgt_explain.specs.Places.{entries_before, placed_cycle};
 ghost use Rattle.sgt_explain.specs.Edges.{FollowsAt, ReportsAccess, ReportsPair, ReportsPending};
 ghost use Rattle.sgt_explain.specs.CycleEdges.{ReportsEdge, HasEdge, WasAbout, IsPairAt};
 
+use crate::explanation::Pending;
 use crate::indexed_history::IndexedHistory;
 use crate::made::{accesses_before, made_at};
 use crate::search::earlier;
@@ -20,6 +21,8 @@ pub struct Earlier {
     pub looked: Option<usize>,
     /// Its first write of the key.
     pub stored: Option<usize>,
+    /// Whether that write is a removal.
+    pub removed: bool,
 }
 
 /// An edge of a cycle, with the accesses of its two transactions that conflict.
@@ -33,6 +36,8 @@ pub struct CycleEdge {
     pub key: Key,
     /// The kind of the later access, which is that of `to`.
     pub kind: Kind,
+    /// Whether the later access is a removal: a write of no value.
+    pub removes: bool,
     /// The position of the later access. None if it was about to be made, and was rejected.
     pub place: Option<usize>,
     /// The accesses of `from` before it.
@@ -40,9 +45,9 @@ pub struct CycleEdge {
 }
 
 /// Returns edge number `number`, from 0, of the cycle by which the entry at this position aborts a transaction. That
-/// transaction was about to make an access of this kind of this key. The edges go from each transaction of the cycle
-/// to the next. The last edge leads back to the first transaction, the one that is aborted; the access that it was
-/// about to make causes that edge.
+/// transaction was about to make this access. The edges go from each transaction of the cycle to the next. The last
+/// edge leads back to the first transaction, the one that is aborted; the access that it was about to make causes that
+/// edge.
 ///
 /// None if the entry aborts no transaction by a cycle, the cycle has no such edge, or no such accesses exist. In a
 /// legal history, with the access that the procedure was at, every edge of the cycle is returned.
@@ -50,20 +55,18 @@ pub fn cycle_edge(
     history: &IndexedHistory,
     place: usize,
     number: usize,
-    key: Key,
-    kind: Kind,
+    pending: Pending,
 ) -> Option<CycleEdge>
-    ensures reported { IfSome result
-        (ReportsEdge history.now place key kind (placed_cycle history.now place) number) }
+    ensures reported { IfSome result (ReportsEdge history.now place pending (placed_cycle history.now place) number) }
     ensures some { IsSome result
-        ↔ HasEdge history.now place key kind (placed_cycle history.now place) number }
-    ensures all { (s : Configuration) → Legal s (reverse history.now) → WasAbout s history.now place key kind
+        ↔ HasEdge history.now place pending.key pending.kind (placed_cycle history.now place) number }
+    ensures all { (s : Configuration) → Legal s (reverse history.now) → WasAbout s history.now place pending.key pending.kind
         → number < length (placed_cycle history.now place) → IsSome result }
     ensures pairs { IfSome result (λ edge. (s : Configuration) → Legal s (reverse history.now)
-        → WasAbout s history.now place key kind → IsPairAt history.now place edge) }
+        → WasAbout s history.now place pending.key pending.kind → IsPairAt history.now place edge) }
 {
     let cycle = cycle_at(history, place)?;
-    path_edge(history, place, cycle.as_slice(), number, key, kind)
+    path_edge(history, place, cycle.as_slice(), number, pending)
 }
 
 // The cycle of the abort at a position, if there is one.
@@ -91,18 +94,17 @@ fn path_edge(
     end: usize,
     cycle: &[Tid],
     number: usize,
-    key: Key,
-    kind: Kind,
+    pending: Pending,
 ) -> Option<CycleEdge>
     requires { end ≤ length history.now }
-    ensures reported { IfSome result (ReportsEdge history.now end key kind cycle.now number) }
-    ensures some { IsSome result ↔ HasEdge history.now end key kind cycle.now number }
+    ensures reported { IfSome result (ReportsEdge history.now end pending cycle.now number) }
+    ensures some { IsSome result ↔ HasEdge history.now end pending.key pending.kind cycle.now number }
 {
     if number >= cycle.len() {
         return None;
     }
     if number == cycle.len() - 1 {
-        return pending_edge(history, end, cycle[number], cycle[0], key, kind);
+        return pending_edge(history, end, cycle[number], cycle[0], pending);
     }
     pair_edge(history, end, cycle[number], cycle[number + 1])
 }
@@ -113,19 +115,19 @@ fn pending_edge(
     end: usize,
     from: Tid,
     to: Tid,
-    key: Key,
-    kind: Kind,
+    pending: Pending,
 ) -> Option<CycleEdge>
     requires { end ≤ length history.now }
-    ensures reported { IfSome result (ReportsPending history.now end from to key kind) }
-    ensures some { IsSome result ↔ (has_conflicting (entries_before history.now end) from key kind ≡ true) }
+    ensures reported { IfSome result (ReportsPending history.now end from to pending) }
+    ensures some { IsSome result ↔ (has_conflicting (entries_before history.now end) from pending.key pending.kind ≡ true) }
 {
-    let earlier = earlier(history, end, from, key, kind)?;
+    let earlier = earlier(history, end, from, pending.key, pending.kind)?;
     Some(CycleEdge {
         from,
         to,
-        key,
-        kind,
+        key: pending.key,
+        kind: pending.kind,
+        removes: pending.removes,
         place: None,
         earlier,
     })
@@ -172,6 +174,7 @@ fn access_edge(history: &IndexedHistory, place: usize, from: Tid, to: Tid) -> Op
         to,
         key: made.key,
         kind: made.kind,
+        removes: made.is_removal(),
         place: Some(place),
         earlier,
     })

@@ -17,6 +17,8 @@ pub struct Pending {
     pub key: Key,
     /// Whether it would read or write it.
     pub kind: Kind,
+    /// Whether it would remove it: that is a write of no value.
+    pub removes: bool,
 }
 
 /// Appends the lines that explain why the entry at this position aborts transactions:
@@ -57,9 +59,8 @@ fn append_edges(
     history: &IndexedHistory,
     pending: Pending,
 ) -> Result<(), NoMemory> {
-    let Pending { key, kind } = pending;
     for number in 0..MOST {
-        if let Some(edge) = cycle_edge(history, explained.place, number, key, kind) {
+        if let Some(edge) = cycle_edge(history, explained.place, number, pending) {
             explained.append_edge(&edge)?;
         }
     }

@@ -21,7 +21,7 @@
 //!
 //! ```
 //! // "line 12: 1 would write 2/101, which 0 read at line 6 and wrote at line 10", and one such line for each other edge.
-//! append_explanation(&mut text, history, place, Some(Pending { key, kind: Kind::Store }), &lines)?;
+//! append_explanation(&mut text, history, place, Some(Pending { key, kind: Kind::Store, removes: false }), &lines)?;
 //! ```
 #![tactic(auto)]
 

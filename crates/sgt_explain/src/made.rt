@@ -1,8 +1,8 @@
 //! An access that an entry of a history records.
-ghost use Rattle.std.specs.Prelude.{◌≡◌, ◌<◌, ◌≤◌, ℕ, length};
+ghost use Rattle.std.specs.Prelude.{◌≡◌, ◌<◌, ◌≤◌, ℕ, Some, length};
 ghost use Rattle.sgt_model.specs.Accesses.{access_at, access_of};
 ghost use Rattle.sgt_model.specs.ReadFrom.{IsBy};
-ghost use Rattle.sgt_explain.specs.Places.{placed_access};
+ghost use Rattle.sgt_explain.specs.Places.{placed_access, is_removal, removes_at};
 
 use crate::indexed_history::IndexedHistory;
 use sgt_log::EntryRef;
@@ -28,12 +28,44 @@ impl Model for Made {
     ghost inverse = { λ a. record { by = a.by; key = a.key; kind = a.kind; value = a.value } };
 }
 
+impl Made {
+    /// Whether it removes the record: it is a write of no value.
+    pub(crate) fn is_removal(self) -> bool
+        ensures { result ≡ is_removal (Some self) }
+    {
+        self.kind == Kind::Store && self.value.is_none()
+    }
+}
+
 /// The access at a position, if the entry there is one.
 pub(crate) fn made_at(history: &IndexedHistory, place: usize) -> Option<Made>
     requires { place < length history.now }
     ensures { result ≡ placed_access history.now place }
 {
     made_in(&history.entry(place))
+}
+
+/// Whether the access at this position, if there is one, removes the record.
+pub(crate) fn removes_at(history: &IndexedHistory, place: Option<usize>) -> bool
+    ensures { result ≡ removes_at history.now place }
+{
+    let Some(place) = place else {
+        return false;
+    };
+    match history.get_entry(place) {
+        Some(entry) => removes(made_in(&entry)),
+        None => false,
+    }
+}
+
+// Whether the access, if there is one, removes the record.
+fn removes(made: Option<Made>) -> bool
+    ensures { result ≡ is_removal made }
+{
+    match made {
+        Some(made) => made.is_removal(),
+        None => false,
+    }
 }
 
 /// A position at or before this one, between which the transaction has no access: the next to look at when its accesses

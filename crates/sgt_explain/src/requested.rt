@@ -19,10 +19,12 @@ pub fn requested_by(event: &Event) -> Option<Pending>
         Event::Access(_, Request::Read(key)) => Some(Pending {
             key: *key,
             kind: Kind::Look,
+            removes: false,
         }),
-        Event::Access(_, Request::Write(key, _)) => Some(Pending {
+        Event::Access(_, Request::Write(key, value)) => Some(Pending {
             key: *key,
             kind: Kind::Store,
+            removes: value.is_none(),
         }),
         _ => None,
     }

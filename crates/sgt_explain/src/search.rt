@@ -8,11 +8,11 @@ ghost use Rattle.sgt_explain.specs.Edges.{ConflictsAt, ReportsEarlier};
 
 use crate::edge::Earlier;
 use crate::indexed_history::IndexedHistory;
-use crate::made::{accesses_before, made_at};
+use crate::made::{accesses_before, made_at, removes_at};
 use sgt_model::{Key, Kind, Tid};
 
-/// A transaction's first read and first write of the key, before the end, that conflict with an access of that kind.
-/// None if there is neither.
+/// A transaction's first read and first write of the key, before the end, that conflict with an access of that kind,
+/// and whether that write is a removal. None if there is neither.
 pub(crate) fn earlier(
     history: &IndexedHistory,
     end: usize,
@@ -29,7 +29,11 @@ pub(crate) fn earlier(
     if looked.is_none() && stored.is_none() {
         return None;
     }
-    Some(Earlier { looked, stored })
+    Some(Earlier {
+        looked,
+        stored,
+        removed: removes_at(history, stored),
+    })
 }
 
 // The position of the transaction's first access of the key of kind `kind`, before the end, that conflicts with one

@@ -20,7 +20,8 @@ pub(crate) struct Explained<'a> {
 impl Explained<'_> {
     /// Appends the line of an edge of the cycle by which the entry aborts a transaction. If its later access was about
     /// to be made, the line reads `line 12: 1 would write 2/101, which 0 read at line 8 and wrote at line 10`. Else it
-    /// reads `line 12: 0 wrote 2/102 at line 10, which 1 read at line 7`. The line of the abort comes first.
+    /// reads `line 12: 0 wrote 2/102 at line 10, which 1 read at line 7`. The line of the abort comes first. Of a removal
+    /// it says `would remove` and `removed`.
     pub fn append_edge(&mut self, edge: &CycleEdge) -> Result<(), AllocError> {
         self.append_place(b"", self.place)?;
         self.append_accesses(edge)
@@ -71,30 +72,25 @@ impl Explained<'_> {
 
     // Appends what the later access of an edge does, or would have done.
     fn append_later(&mut self, edge: &CycleEdge) -> Result<(), AllocError> {
-        let words = match (edge.kind, edge.place) {
-            (Kind::Look, Some(_)) => b" read ".as_slice(),
-            (Kind::Store, Some(_)) => b" wrote ".as_slice(),
-            (Kind::Look, None) => b" would read ".as_slice(),
-            (Kind::Store, None) => b" would write ".as_slice(),
+        let Some(place) = edge.place else {
+            return append_key(&mut self.text, planned_words(edge), edge.key);
         };
-        append_key(&mut self.text, words, edge.key)?;
-        match edge.place {
-            Some(place) => self.append_place(b" at ", place),
-            None => Ok(()),
-        }
+        append_key(&mut self.text, made_words(edge), edge.key)?;
+        self.append_place(b" at ", place)
     }
 
     // Appends the earlier accesses of an edge.
     fn append_earlier(&mut self, earlier: &Earlier) -> Result<(), AllocError> {
-        match (earlier.looked, earlier.stored) {
-            (Some(looked), Some(stored)) => {
-                self.append_place(b" read at ", looked)?;
-                self.append_place(b" and wrote at ", stored)
-            }
-            (Some(looked), None) => self.append_place(b" read at ", looked),
-            (None, Some(stored)) => self.append_place(b" wrote at ", stored),
-            (None, None) => Ok(()),
+        if let Some(looked) = earlier.looked {
+            self.append_place(b" read at ", looked)?;
         }
+        let Some(stored) = earlier.stored else {
+            return Ok(());
+        };
+        if earlier.looked.is_some() {
+            self.text.extend_from_slice(b" and")?;
+        }
+        self.append_place(stored_words(earlier), stored)
     }
 
     // Appends words and the line of the entry at a position.
@@ -104,6 +100,33 @@ impl Explained<'_> {
             Some(line) => append_number(&mut self.text, b"line ", *line),
             None => append_number(&mut self.text, b"entry ", place as u64),
         }
+    }
+}
+
+// What the later access of an edge did.
+fn made_words(edge: &CycleEdge) -> &'static [u8] {
+    match (edge.kind, edge.removes) {
+        (Kind::Look, _) => b" read ",
+        (Kind::Store, true) => b" removed ",
+        (Kind::Store, false) => b" wrote ",
+    }
+}
+
+// What the later access of an edge would have done.
+fn planned_words(edge: &CycleEdge) -> &'static [u8] {
+    match (edge.kind, edge.removes) {
+        (Kind::Look, _) => b" would read ",
+        (Kind::Store, true) => b" would remove ",
+        (Kind::Store, false) => b" would write ",
+    }
+}
+
+// What the earlier write of an edge did.
+fn stored_words(earlier: &Earlier) -> &'static [u8] {
+    if earlier.removed {
+        b" removed at "
+    } else {
+        b" wrote at "
     }
 }
 

@@ -15,10 +15,12 @@ pub(crate) fn pending_by(engine: &SgtEngine, event: &Event) -> Option<Pending> {
         Ahead::Look(key) => Some(Pending {
             key,
             kind: Kind::Look,
+            removes: false,
         }),
-        Ahead::Put(key, _) => Some(Pending {
+        Ahead::Put(key, value) => Some(Pending {
             key,
             kind: Kind::Store,
+            removes: value.is_none(),
         }),
         Ahead::Ends | Ahead::Asks(_) => None,
     }
