@@ -262,10 +262,11 @@ def compare_levels(program, draw, history):
         evidence.compare_orders(reported, owners)
         evidence.compare_anomalies(reported["anomalies"], found["serializable"] == "yes")
         strongest = [it for it in found if found[it] == "yes"][-1:]
-        same("strongest", (strongest or [None])[0], reported["strongest"])
-        line = f"strongest level: {(strongest or ['none'])[0].replace('-', ' ')}"
+        is_least = "undecided" in [found[it] for it in found if not strongest or LEVELS.index(it) > LEVELS.index(strongest[0])]
+        same("strongest", ((strongest or [None])[0], is_least), (reported["strongest"], reported["at_least"]))
+        line = f"strongest level: {'at least ' * is_least}{(strongest or ['none'])[0].replace('-', ' ')}"
         lines = check(program, given, *options)[1].splitlines()
-        same("report", True, line in lines)
+        same("report", [line], [it for it in lines if it.startswith("strongest level: ")])
         same("lines of anomalies", [f"anomaly {it['anomaly']}: {it['count']}, the first:" for it in reported["anomalies"]],
              [it for it in lines if it.startswith("anomaly ")])
     except (Differs, ValueError, AttributeError, KeyError) as why:
@@ -451,7 +452,9 @@ WITNESSES = [
 ]
 
 
-# Histories by their strongest level, with the line on the next level, unless the verdict says it.
+SKEW = [one("ok", (R, 8, ()), (A, 9, 1)), one("ok", (R, 9, ()), (A, 8, 1))]
+
+# Histories by their strongest level, with the line on the next level, unless the verdict says it. `at least`: that one is undecided.
 STRONGEST = [
     ("serializable", None, [one("ok", (A, 1, 1)), one("ok", (R, 1, (1,)))]),
     ("snapshot isolation", None, NAMED["G2-item"]),
@@ -465,7 +468,9 @@ STRONGEST = [
     ("read uncommitted", "not read committed: G1b", NAMED["G1b"]),
     ("read uncommitted", "not read committed: by the lines above", NAMED["G1c"]),
     ("read uncommitted", "not read committed: by the lines above", NAMED["internal"]),
-    ("none", "read uncommitted undecided", NAMED["incompatible-order"]),
+    ("at least none", "read uncommitted undecided", NAMED["incompatible-order"]),
+    ("at least read committed", "snapshot isolation undecided: no read saw which of two appends to a key came first",
+     [one("ok", (A, 1, 1), (A, 2, 2)), one("ok", (R, 2, ()), (A, 1, 3)), *SKEW]),
 ]
 
 
@@ -474,6 +479,9 @@ def names_the_strongest_level(program):
         lines = check(program, in_turn(history))[1].splitlines()
         place = lines.index(f"strongest level: {strongest}")
         same(f"after {strongest}", broken, (lines[place + 1:] or [None])[0])
+        reported = json.loads(check(program, in_turn(history), "--json")[1])
+        name = (reported["strongest"] or "none").replace("-", " ")
+        same(f"{strongest} in JSON", strongest, "at least " * reported["at_least"] + name)
     stale = in_turn([one("ok", (A, 1, 1)), one("ok", (R, 1, (1,))), one("ok", (R, 1, ()))])
     lines = check(program, stale, "--strict")[1].splitlines()
     place = lines.index("strongest level: serializable")
@@ -491,14 +499,11 @@ def names_the_strongest_level(program):
     same("without the model", (2, b"", True), (ran.returncode, ran.stdout, b"--model list-append" in ran.stderr))
 
 
-SKEW = [one("ok", (R, 8, ()), (A, 9, 1)), one("ok", (R, 9, ()), (A, 8, 1))]
-
-
 def names_the_read_that_decides(program):
     """Two appends that nobody saw: the report names the read that would decide, and with that read it has an answer."""
     unseen = [one("ok", (A, 1, 1), (A, 2, 2)), one("ok", (R, 2, ()), (A, 1, 3)), *SKEW]
     status, text, _ = check(program, in_turn(unseen), "--level", "snapshot-isolation")
-    same("undecided", (3, ["strongest level: read committed",
+    same("undecided", (3, ["strongest level: at least read committed",
                            "snapshot isolation undecided: no read saw which of two appends to a key came first",
                            "  read key 1 at the end: it would show the order of 1 of t1 (line 2) and 3 of t2 (line 4)"]),
          (status, text.splitlines()[-3:]))
@@ -1132,7 +1137,7 @@ def ends_on_long_ones(program):
     entries = [{"type": "ok", "process": 0, "f": "txn", "value": [["append", 1, it], ["append", 1, it + 1]]} for it in range(0, 200_000, 2)]
     seen = [*range(199_998), 199_999, 199_998]
     status, text, _ = check(program, lines_of([*entries, {"type": "ok", "process": 0, "f": "txn", "value": [["r", 1, seen]]}]))
-    same("a read", (1, "serializable no: incompatible-order", "strongest level: none"), (status, text.splitlines()[1], text.splitlines()[3]))
+    same("a read", (1, "serializable no: incompatible-order", "strongest level: at least none"), (status, text.splitlines()[1], text.splitlines()[3]))
 
 
 def late_appends(drawing):

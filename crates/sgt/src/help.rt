@@ -69,7 +69,7 @@ them is an event and gets one line of reply. The committed database comes last.
   read        a read on which the caller decides, once the procedure has ended without a code: the
               transaction, a table and a number in it
   write       a write of the value that comes last
-  remove      a write that removes the record: --explain says that it wrote
+  remove      a write that removes the record
   cut         ends this part of the history, if no transaction is live: transactions are numbered
               from 0 again, and the limit of starts counts anew
 
@@ -287,9 +287,10 @@ the line of its end, or of its beginning if its end is unknown:
 With --strict the order also keeps real time: if one transaction ended before another began, it
 comes first. Time is the order of the objects. With --json the report is one object of JSON. --graph
 and --timeline show the cycle. If the objects are not one a line, 'entry 3' in place of 'line 3'
-names the third object. After the strongest level comes what breaks the next one, unless the lines
-before say it; with --strict, whether strong and session snapshot isolation hold; and how many reads
-were wrong, and how many updates lost, with the first of each kind.
+names the third object. 'strongest level: at least read committed' says that the next one is
+undecided. After the strongest level comes what breaks the next one, unless the lines before say it;
+with --strict, whether strong and session snapshot isolation hold; and how many reads were wrong,
+and how many updates lost, with the first of each kind.
 
 The status is 0 if the history is serializable and recoverable (list-append: serializable, or of the
 level that --level names), 1 if not, 2 after an error, and 3 if --level's answer is undecided. The

@@ -23,7 +23,7 @@ use Rattle.sgt_clients.specs.declared.level.Level.TheVariants.{ReadUncommitted, 
 use Rattle.sgt_clients.specs.declared.level_findings.LevelFindings.{LevelFindings}
 use Rattle.sgt_clients.specs.declared.level_findings.Weaker.{Weaker}
 use Rattle.sgt_clients.specs.Findings.{HasOrder, IsFound, is_order}
-use Rattle.sgt_clients.specs.Levels.{is_strict, IsOfLevel, IsAnswer, writes_answer, committed_answer, snapshot_answer, serial_answer, serial_finding, answer_of, is_yes, strongest_of, AreFound}
+use Rattle.sgt_clients.specs.Levels.{is_strict, IsOfLevel, IsAnswer, writes_answer, committed_answer, snapshot_answer, serial_answer, serial_finding, answer_of, is_yes, is_undecided, strongest_of, is_at_least, NoStronger, AreFound}
 
 -- a finding without real time
 untimed_right : (c : Clients) (f : Finding) → IsFound false c.transactions.items c.spans.items f → IsAnswer Serializable c (serial_answer f)
@@ -162,6 +162,124 @@ strongest_holds strict c f found =
     (pick c (is_yes (answer_of f ReadUncommitted)) ReadUncommitted None
     (yes_holds ReadUncommitted c (answer_of f ReadUncommitted) (answers_right strict c f ReadUncommitted found (λ is. absurd (cc))))
     tt))))
+
+-- if the next stronger level does not hold, none does
+
+-- what the clients saw is of each weaker level
+strict_serial : (c : Clients) → IsOfLevel StrictSerializable c → IsOfLevel Serializable c
+strict_serial c (order, is) = (order, is.0)
+
+snapshot_committed_of : (c : Clients) → IsOfLevel SnapshotIsolation c → IsOfLevel ReadCommitted c
+snapshot_committed_of c (order, begin, commit, is) = (order, snapshot_committed c.transactions.items order begin commit is)
+
+committed_uncommitted_of : (c : Clients) → IsOfLevel ReadCommitted c → IsOfLevel ReadUncommitted c
+committed_uncommitted_of c (order, is) = (order, committed_writes c.transactions.items order is)
+
+-- what the clients saw is not of the level after this one
+NotNext : Bool → Clients → Option Level → Type 0
+NotNext strict c None = ¬ IsOfLevel ReadUncommitted c
+NotNext strict c (Some ReadUncommitted) = ¬ IsOfLevel ReadCommitted c
+NotNext strict c (Some ReadCommitted) = ¬ IsOfLevel SnapshotIsolation c
+NotNext strict c (Some SnapshotIsolation) = ¬ IsOfLevel Serializable c
+NotNext strict c (Some Serializable) = strict ≡ true → ¬ IsOfLevel StrictSerializable c
+NotNext strict c (Some StrictSerializable) = Unit {0}
+
+-- so no level that implies it holds
+not_uncommitted : (c : Clients) → ¬ IsOfLevel ReadUncommitted c → ¬ IsOfLevel ReadCommitted c
+not_uncommitted c no is = no (committed_uncommitted_of c is)
+
+not_committed : (c : Clients) → ¬ IsOfLevel ReadCommitted c → ¬ IsOfLevel SnapshotIsolation c
+not_committed c no is = no (snapshot_committed_of c is)
+
+not_snapshot : (c : Clients) → ¬ IsOfLevel SnapshotIsolation c → ¬ IsOfLevel Serializable c
+not_snapshot c no is = no (snapshot_holds c is)
+
+not_serial : (c : Clients) → ¬ IsOfLevel Serializable c → ¬ IsOfLevel StrictSerializable c
+not_serial c no is = no (strict_serial c is)
+
+none_stronger : (strict : Bool) (c : Clients) (strongest : Option Level) → NotNext strict c strongest → NoStronger strict c strongest
+none_stronger strict c None no ReadUncommitted above keeps = no
+none_stronger strict c None no ReadCommitted above keeps = not_uncommitted c no
+none_stronger strict c None no SnapshotIsolation above keeps = not_committed c (not_uncommitted c no)
+none_stronger strict c None no Serializable above keeps = not_snapshot c (not_committed c (not_uncommitted c no))
+none_stronger strict c None no StrictSerializable above keeps = not_serial c (not_snapshot c (not_committed c (not_uncommitted c no)))
+none_stronger strict c (Some ReadUncommitted) no ReadUncommitted above keeps = absurd (omega (arith, above))
+none_stronger strict c (Some ReadUncommitted) no ReadCommitted above keeps = no
+none_stronger strict c (Some ReadUncommitted) no SnapshotIsolation above keeps = not_committed c no
+none_stronger strict c (Some ReadUncommitted) no Serializable above keeps = not_snapshot c (not_committed c no)
+none_stronger strict c (Some ReadUncommitted) no StrictSerializable above keeps = not_serial c (not_snapshot c (not_committed c no))
+none_stronger strict c (Some ReadCommitted) no ReadUncommitted above keeps = absurd (omega (arith, above))
+none_stronger strict c (Some ReadCommitted) no ReadCommitted above keeps = absurd (omega (arith, above))
+none_stronger strict c (Some ReadCommitted) no SnapshotIsolation above keeps = no
+none_stronger strict c (Some ReadCommitted) no Serializable above keeps = not_snapshot c no
+none_stronger strict c (Some ReadCommitted) no StrictSerializable above keeps = not_serial c (not_snapshot c no)
+none_stronger strict c (Some SnapshotIsolation) no ReadUncommitted above keeps = absurd (omega (arith, above))
+none_stronger strict c (Some SnapshotIsolation) no ReadCommitted above keeps = absurd (omega (arith, above))
+none_stronger strict c (Some SnapshotIsolation) no SnapshotIsolation above keeps = absurd (omega (arith, above))
+none_stronger strict c (Some SnapshotIsolation) no Serializable above keeps = no
+none_stronger strict c (Some SnapshotIsolation) no StrictSerializable above keeps = not_serial c no
+none_stronger strict c (Some Serializable) no ReadUncommitted above keeps = absurd (omega (arith, above))
+none_stronger strict c (Some Serializable) no ReadCommitted above keeps = absurd (omega (arith, above))
+none_stronger strict c (Some Serializable) no SnapshotIsolation above keeps = absurd (omega (arith, above))
+none_stronger strict c (Some Serializable) no Serializable above keeps = absurd (omega (arith, above))
+none_stronger strict c (Some Serializable) no StrictSerializable above keeps = no (keeps refl)
+none_stronger strict c (Some StrictSerializable) no ReadUncommitted above keeps = absurd (omega (arith, above))
+none_stronger strict c (Some StrictSerializable) no ReadCommitted above keeps = absurd (omega (arith, above))
+none_stronger strict c (Some StrictSerializable) no SnapshotIsolation above keeps = absurd (omega (arith, above))
+none_stronger strict c (Some StrictSerializable) no Serializable above keeps = absurd (omega (arith, above))
+none_stronger strict c (Some StrictSerializable) no StrictSerializable above keeps = absurd (omega (arith, above))
+
+-- a level whose answer is neither yes nor undecided does not hold; those of serial orders are never undecided
+not_holds : (level : Level) (c : Clients) (a : Answer) → IsAnswer level c a → is_yes a ≡ false → is_undecided a ≡ false
+    → ¬ IsOfLevel level c
+not_holds level c Yes right no decided = absurd (cc)
+not_holds level c No right no decided = right
+not_holds level c Undecided right no decided = absurd (cc)
+
+serial_not_holds : (c : Clients) (a : Answer) → IsAnswer Serializable c a → is_yes a ≡ false → ¬ IsOfLevel Serializable c
+serial_not_holds c Yes right no = absurd (cc)
+serial_not_holds c No right no = right
+serial_not_holds c Undecided right no = absurd (right.0 refl)
+
+strict_not_holds : (c : Clients) (a : Answer) → IsAnswer StrictSerializable c a → is_yes a ≡ false → ¬ IsOfLevel StrictSerializable c
+strict_not_holds c Yes right no = absurd (cc)
+strict_not_holds c No right no = right
+strict_not_holds c Undecided right no = absurd (right.1 refl)
+
+second_false : (a b : Bool) → (a && b) ≡ false → a ≡ true → b ≡ false
+second_false true b is a_is = is
+second_false false b is a_is = absurd (cc)
+
+-- of the first of the levels that is picked, or of the rest
+choose : (P : Option Level → Type 0) (b : Bool) (level : Level) (rest : Option Level) → P (Some level) → (b ≡ false → P rest)
+    → P (if b then Some level else rest)
+choose P true level rest here there = here
+choose P false level rest here there = there refl
+
+-- if the level after the strongest one is decided, it does not hold
+next_fails : (strict : Bool) (c : Clients) (f : LevelFindings) → AreFound strict c f → is_at_least f (strongest_of strict f) ≡ false
+    → NotNext strict c (strongest_of strict f)
+next_fails strict c f found =
+    let P = λ (s : Option Level). is_at_least f s ≡ false → NotNext strict c s in
+    choose P (strict && is_yes (answer_of f StrictSerializable)) StrictSerializable _ (λ _. tt) (λ no_strict.
+    choose P (is_yes (answer_of f Serializable)) Serializable _
+    (λ _ keeps. strict_not_holds c (answer_of f StrictSerializable) (answers_right strict c f StrictSerializable found (λ _. keeps))
+    (second_false strict (is_yes (answer_of f StrictSerializable)) no_strict keeps)) (λ no_serial.
+    choose P (is_yes (answer_of f SnapshotIsolation)) SnapshotIsolation _
+    (λ _. serial_not_holds c (answer_of f Serializable) (answers_right strict c f Serializable found (λ is. absurd (cc))) no_serial)
+    (λ no_snapshot.
+    choose P (is_yes (answer_of f ReadCommitted)) ReadCommitted _
+    (not_holds SnapshotIsolation c (answer_of f SnapshotIsolation)
+    (answers_right strict c f SnapshotIsolation found (λ is. absurd (cc))) no_snapshot) (λ no_committed.
+    choose P (is_yes (answer_of f ReadUncommitted)) ReadUncommitted None
+    (not_holds ReadCommitted c (answer_of f ReadCommitted) (answers_right strict c f ReadCommitted found (λ is. absurd (cc)))
+    no_committed) (not_holds ReadUncommitted c (answer_of f ReadUncommitted)
+    (answers_right strict c f ReadUncommitted found (λ is. absurd (cc))))))))
+
+-- and then no stronger one does
+pub strongest_is : (strict : Bool) (c : Clients) (f : LevelFindings) → AreFound strict c f → is_at_least f (strongest_of strict f) ≡ false
+    → NoStronger strict c (strongest_of strict f)
+strongest_is strict c f found decided = none_stronger strict c (strongest_of strict f) (next_fails strict c f found decided)
 
 -- a question for the strict level keeps real time
 pub level_keeps : (strict : Bool) (level : Level) → is_strict level ≡ true → (strict || is_strict level) ≡ true

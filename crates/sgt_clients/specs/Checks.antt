@@ -14,7 +14,7 @@ use Rattle.sgt_clients.specs.declared.run.ClientsOutput.TheVariants as output
 use Rattle.sgt_clients.specs.GraphText.{graph_text}
 use Rattle.sgt_clients.specs.Inputs.{AreClients}
 use Rattle.sgt_clients.specs.Reports.{json_text}
-use Rattle.sgt_clients.specs.Levels.{is_strict, keeps_time, IsOfLevel, IsAnswer, answer_of, strongest_of, AreFound}
+use Rattle.sgt_clients.specs.Levels.{is_strict, keeps_time, IsOfLevel, IsAnswer, answer_of, strongest_of, is_at_least, NoStronger, AreFound}
 use Rattle.sgt_clients.specs.Reports.{report_text}
 
 -- the text of the report, of the object of JSON and of the graph; nothing is claimed of the picture
@@ -29,8 +29,9 @@ abbrev pub as_json : List ℕ → List ℕ
 as_json input = if is_edn input then json_of_edn input else input
 
 -- What a check guarantees for each output, of an input in JSON. It writes the text of that output for what the clients
--- of the input saw: at least one transaction. Each level's answer is right, the strongest level holds, and the answer for
--- the level of the question is returned. Real time is kept only if there is an invocation.
+-- of the input saw: at least one transaction. Each level's answer is right, and the strongest level holds. If the output
+-- does not say `at least` of it, no stronger one holds. The answer for the level of the question is returned. Real time is
+-- kept only if there is an invocation.
 pub record IsJudged (q : Question) (output : ClientsOutput) (input written : List ℕ) (answer : Answer) : Type 0 where
   pub clients : Clients
   pub findings : LevelFindings
@@ -41,6 +42,8 @@ pub record IsJudged (q : Question) (output : ClientsOutput) (input written : Lis
   pub text : IsOutput output (keeps_time q) clients findings written
   pub answers : (level : Level) → (is_strict level ≡ true → keeps_time q ≡ true) → IsAnswer level clients (answer_of findings level)
   pub strongest : IfSome (strongest_of (keeps_time q) findings) (λ level. IsOfLevel level clients)
+  pub none_stronger : is_at_least findings (strongest_of (keeps_time q) findings) ≡ false
+      → NoStronger (keeps_time q) clients (strongest_of (keeps_time q) findings)
   pub answered : answer ≡ answer_of findings q.level
   pub verdict : IsAnswer q.level clients answer
 

@@ -18,8 +18,8 @@ use Rattle.sgt_clients.specs.declared.level.Answer.TheVariants.{Yes, No, Undecid
 use Rattle.sgt_clients.specs.declared.level.Level.{Level}
 use Rattle.sgt_clients.specs.declared.level.Level.TheVariants.{ReadUncommitted, ReadCommitted, SnapshotIsolation, Serializable, StrictSerializable}
 use Rattle.sgt_clients.specs.declared.level_findings.LevelFindings.{LevelFindings}
-use Rattle.sgt_clients.specs.JsonText.{list_text, tie_object, anomaly_member, order_member, cycle_member, reader_members, finding_members}
-use Rattle.sgt_clients.specs.Levels.{answer_of, strongest_of}
+use Rattle.sgt_clients.specs.JsonText.{truth_text, list_text, tie_object, anomaly_member, order_member, cycle_member, reader_members, finding_members}
+use Rattle.sgt_clients.specs.Levels.{answer_of, strongest_of, is_at_least}
 use Rattle.sgt_clients.specs.ReportText.{fault_text, partial_text, unseen_in}
 
 -- the name of a level, as the option spells it, in quotes
@@ -100,10 +100,12 @@ abbrev pub level_objects : Bool → Clients → LevelFindings → List ℕ
 level_objects strict c f = level_object c f ReadUncommitted ++ next_object c f ReadCommitted ++ next_object c f SnapshotIsolation
     ++ next_object c f Serializable ++ strict_object strict c f
 
--- the member on the strongest level, and the beginning of that on each level
-abbrev pub strongest_member : Option Level → List ℕ
-strongest_member level = filled (codes ",\"strongest\":#,\"levels\":{") (strongest_code level ∷ [])
+-- the members on the strongest level, and the beginning of that on each level
+abbrev pub strongest_member : Bool → Option Level → List ℕ
+strongest_member at_least level =
+    filled (codes ",\"strongest\":#,\"at_least\":#,\"levels\":{") (strongest_code level ∷ truth_text at_least ∷ [])
 
 -- the members on the strongest level, and on each level
 abbrev pub levels_members : Bool → Clients → LevelFindings → List ℕ
-levels_members strict c f = strongest_member (strongest_of strict f) ++ level_objects strict c f ++ codes "}"
+levels_members strict c f = strongest_member (is_at_least f (strongest_of strict f)) (strongest_of strict f) ++ level_objects strict c f
+    ++ codes "}"

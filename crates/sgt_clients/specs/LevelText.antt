@@ -16,7 +16,7 @@ use Rattle.sgt_clients.specs.declared.level.Level.{Level}
 use Rattle.sgt_clients.specs.declared.level.Level.TheVariants.{ReadUncommitted, ReadCommitted, SnapshotIsolation, Serializable, StrictSerializable}
 use Rattle.sgt_clients.specs.declared.level_findings.LevelFindings.{LevelFindings}
 use Rattle.sgt_clients.specs.declared.level_findings.Weaker.{Weaker}
-use Rattle.sgt_clients.specs.Levels.{strongest_of}
+use Rattle.sgt_clients.specs.Levels.{strongest_of, is_at_least}
 use Rattle.sgt_clients.specs.ReportText.{tie_text, partial_line, fault_line, unseen_in, witness_text}
 
 -- the name of a level
@@ -32,9 +32,13 @@ abbrev pub strongest_words : Option Level → List ℕ
 strongest_words None = codes "none"
 strongest_words (Some level) = level_words level
 
+-- the words before the strongest level, if it is only the strongest that is shown
+abbrev pub bound_words : Bool → List ℕ
+bound_words at_least = if at_least then codes "at least " else []
+
 -- the line of the strongest level
-abbrev pub strongest_text : Option Level → List ℕ
-strongest_text level = filled (codes "strongest level: #\n") (strongest_words level ∷ [])
+abbrev pub strongest_text : Bool → Option Level → List ℕ
+strongest_text at_least level = filled (codes "strongest level: ##\n") (bound_words at_least ∷ strongest_words level ∷ [])
 
 -- the line that a level does not hold, with the name of the anomaly
 abbrev pub not_text : Level → List ℕ → List ℕ
@@ -104,4 +108,4 @@ next_text c f (Some StrictSerializable) = []
 
 -- the lines on the levels
 abbrev pub levels_text : Bool → Clients → LevelFindings → List ℕ
-levels_text strict c f = strongest_text (strongest_of strict f) ++ next_text c f (strongest_of strict f)
+levels_text strict c f = strongest_text (is_at_least f (strongest_of strict f)) (strongest_of strict f) ++ next_text c f (strongest_of strict f)

@@ -1,5 +1,5 @@
 -- The levels of isolation of what clients saw, and the claims of the answers.
-use Rattle.std.specs.Prelude.{◌≡◌, ◌≢◌, ◌&&◌, ◌||◌, Bool, true, false, Option, Some, None, IfSome, if◌then◌else◌}
+use Rattle.std.specs.Prelude.{⊤, ◌≡◌, ◌≢◌, ◌<◌, ◌&&◌, ◌||◌, ℕ, Bool, true, false, Option, Some, None, IfSome, if◌then◌else◌}
 use Rattle.std.specs.Option.{option_map_or}
 use Rattle.sgt_levels.specs.Answers.{AreRight}
 use Rattle.sgt_levels.specs.Commits.{IsReadCommitted}
@@ -98,6 +98,36 @@ strongest_of strict f =
     else if is_yes (answer_of f ReadCommitted) then Some ReadCommitted
     else if is_yes (answer_of f ReadUncommitted) then Some ReadUncommitted
     else None
+
+-- whether there is no answer
+abbrev pub is_undecided : Answer → Bool
+is_undecided Undecided = true
+is_undecided answer = false
+
+-- Whether the strongest level is only the strongest that is shown: the next one is undecided. The levels of serial orders
+-- are always decided.
+abbrev pub is_at_least : LevelFindings → Option Level → Bool
+is_at_least f None = is_undecided (answer_of f ReadUncommitted)
+is_at_least f (Some ReadUncommitted) = is_undecided (answer_of f ReadCommitted)
+is_at_least f (Some ReadCommitted) = is_undecided (answer_of f SnapshotIsolation)
+is_at_least f (Some level) = false
+
+-- the strength of a level
+abbrev pub strength : Level → ℕ
+strength ReadUncommitted = 1
+strength ReadCommitted = 2
+strength SnapshotIsolation = 3
+strength Serializable = 4
+strength StrictSerializable = 5
+
+-- the level is stronger than the other one, or than none
+abbrev pub IsStronger : Level → Option Level → Type 0
+IsStronger level None = ⊤
+IsStronger level (Some other) = strength other < strength level
+
+-- No stronger level holds. Strict serializability counts only if real time is kept.
+abbrev pub NoStronger : Bool → Clients → Option Level → Type 0
+NoStronger strict c strongest = (level : Level) → IsStronger level strongest → (is_strict level ≡ true → strict ≡ true) → ¬ IsOfLevel level c
 
 -- each finding is right, and one that is left out follows from an order
 pub record AreFound (strict : Bool) (c : Clients) (f : LevelFindings) : Type 0 where

@@ -62,7 +62,7 @@ fn append_head(
 }
 
 /// `true` or `false`.
-fn truth_text(truth: bool) -> &'static [u8]
+pub(crate) fn truth_text(truth: bool) -> &'static [u8]
     ensures { result.now ≡ truth_text truth }
 {
     if truth { b"true" } else { b"false" }

@@ -1,7 +1,7 @@
 //! Levels of isolation, and what a check is asked.
 
 ghost use Rattle.std.specs.Prelude.{◌≡◌};
-ghost use Rattle.sgt_clients.specs.Levels.{is_strict, keeps_time, is_yes};
+ghost use Rattle.sgt_clients.specs.Levels.{is_strict, keeps_time, is_yes, is_undecided};
 
 /// A level of isolation. Each is stronger than those above it.
 #[derive(Clone, Copy)]
@@ -64,5 +64,15 @@ pub(crate) fn is_yes(answer: Answer) -> bool
         Answer::Yes => true,
         Answer::No => false,
         Answer::Undecided => false,
+    }
+}
+
+/// Whether there is no answer.
+pub(crate) fn is_undecided(answer: Answer) -> bool
+    ensures { result ≡ is_undecided answer }
+{
+    match answer {
+        Answer::Undecided => true,
+        Answer::Yes | Answer::No => false,
     }
 }

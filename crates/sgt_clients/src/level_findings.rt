@@ -5,14 +5,14 @@ ghost use Rattle.std.specs.Option.{option_map_or};
 ghost use Rattle.sgt_levels.specs.Answers.{AreRight};
 ghost use Rattle.sgt_levels.specs.Unseen.{AreUnseen};
 ghost use Rattle.sgt_clients.specs.Findings.{IsFound, is_order};
-ghost use Rattle.sgt_clients.specs.Levels.{serial_finding, serial_answer, writes_answer, committed_answer, snapshot_answer, answer_of, is_yes, strongest_of, AreFound};
+ghost use Rattle.sgt_clients.specs.Levels.{serial_finding, serial_answer, writes_answer, committed_answer, snapshot_answer, answer_of, is_yes, is_undecided, strongest_of, is_at_least, AreFound};
 ghost use Rattle.sgt_clients.specs.declared.level.Answer.TheVariants.{Yes};
 
 use crate::anomalies::{Seen, anomalies_of};
 use crate::clients::Clients;
 use crate::fault::ClientsFault;
 use crate::finding::{Finding, check_clients, is_serial};
-use crate::level::{Answer, Level, is_yes};
+use crate::level::{Answer, Level, is_undecided, is_yes};
 use crate::names::{
     breaks_committed, breaks_serial, breaks_snapshot, committed_name, snapshot_name, writes_name,
 };
@@ -101,6 +101,19 @@ impl LevelFindings {
             Some(Level::ReadUncommitted)
         } else {
             None
+        }
+    }
+
+    /// Whether this strongest level is only the strongest that is shown: the next one is undecided. Otherwise no stronger
+    /// level holds.
+    pub fn is_at_least(&self, strongest: Option<Level>) -> bool
+        ensures { result ≡ is_at_least self.now strongest }
+    {
+        match strongest {
+            None => is_undecided(self.answer(Level::ReadUncommitted)),
+            Some(Level::ReadUncommitted) => is_undecided(self.answer(Level::ReadCommitted)),
+            Some(Level::ReadCommitted) => is_undecided(self.answer(Level::SnapshotIsolation)),
+            Some(Level::SnapshotIsolation | Level::Serializable | Level::StrictSerializable) => false,
         }
     }
 }

@@ -6,7 +6,7 @@ ghost use Rattle.sgt_clients.specs.JsonText.{next_item, items_text, list_text};
 ghost use Rattle.sgt_clients.specs.LevelJson.{level_code, strongest_code, answer_text, holds_text, ties_members, ordered_members, evidence_members, run_members, split_members, strict_object, level_objects, strongest_member, levels_members, next_object, level_object, level_members};
 
 use crate::clients::Clients;
-use crate::json_text::{append_cycle, append_finding, append_name, append_order, append_reader};
+use crate::json_text::{append_cycle, append_finding, append_name, append_order, append_reader, truth_text};
 use crate::level::{Answer, Level};
 use crate::level_findings::LevelFindings;
 use crate::part::Part;
@@ -24,20 +24,28 @@ pub(crate) fn append_levels(
 ) -> Result<(), NoMemory>
     ensures { OnOk result (text.new.items ≡ text.old.items ++ levels_members strict clients.now found.now) }
 {
-    append_strongest(text, found.strongest(strict))?;
+    let strongest = found.strongest(strict);
+    append_strongest(text, found.is_at_least(strongest), strongest)?;
     append_objects(text, clients, found, strict)?;
     text.extend_from_slice(b"}")?;
     Ok(())
 }
 
-/// Appends the member of the strongest level, and the beginning of the one on all.
-fn append_strongest(text: &mut Vec<u8>, strongest: Option<Level>) -> Result<(), NoMemory>
-    ensures { OnOk result (text.new.items ≡ text.old.items ++ strongest_member strongest) }
+/// Appends the members on the strongest level, and the beginning of the one on all.
+fn append_strongest(
+    text: &mut Vec<u8>,
+    at_least: bool,
+    strongest: Option<Level>,
+) -> Result<(), NoMemory>
+    ensures { OnOk result (text.new.items ≡ text.old.items ++ strongest_member at_least strongest) }
 {
     append_filled(
         text,
-        b",\"strongest\":#,\"levels\":{",
-        &[Part::Words(strongest_code(strongest))],
+        b",\"strongest\":#,\"at_least\":#,\"levels\":{",
+        &[
+            Part::Words(strongest_code(strongest)),
+            Part::Words(truth_text(at_least)),
+        ],
     )
 }
 

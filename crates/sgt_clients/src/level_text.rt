@@ -1,7 +1,7 @@
 //! The lines on the levels of isolation: the strongest that holds, and what breaks the next one.
 
 ghost use Rattle.std.specs.Prelude.{◌≡◌, ◌++◌, flat_map, OnOk};
-ghost use Rattle.sgt_clients.specs.LevelText.{level_words, strongest_words, strongest_text, not_text, above_text, undecided_text, ties_text, unordered_text, broken_text, committed_text, open_text, split_text, snapshot_text, untimed_text, next_text, levels_text};
+ghost use Rattle.sgt_clients.specs.LevelText.{level_words, bound_words, strongest_words, strongest_text, not_text, above_text, undecided_text, ties_text, unordered_text, broken_text, committed_text, open_text, split_text, snapshot_text, untimed_text, next_text, levels_text};
 ghost use Rattle.sgt_clients.specs.ReportText.{tie_text, partial_line};
 
 use crate::clients::Clients;
@@ -24,19 +24,33 @@ pub(crate) fn append_levels(
     ensures { OnOk result (text.new.items ≡ text.old.items ++ levels_text strict clients.now found.now) }
 {
     let strongest = found.strongest(strict);
-    append_strongest(text, strongest)?;
+    append_strongest(text, found.is_at_least(strongest), strongest)?;
     append_next(text, clients, found, strongest)
 }
 
-/// Appends the line of the strongest level.
-fn append_strongest(text: &mut Vec<u8>, strongest: Option<Level>) -> Result<(), NoMemory>
-    ensures { OnOk result (text.new.items ≡ text.old.items ++ strongest_text strongest) }
+/// Appends the line of the strongest level, or of the strongest that is shown.
+fn append_strongest(
+    text: &mut Vec<u8>,
+    at_least: bool,
+    strongest: Option<Level>,
+) -> Result<(), NoMemory>
+    ensures { OnOk result (text.new.items ≡ text.old.items ++ strongest_text at_least strongest) }
 {
     append_filled(
         text,
-        b"strongest level: #\n",
-        &[Part::Words(strongest_words(strongest))],
+        b"strongest level: ##\n",
+        &[
+            Part::Words(bound_words(at_least)),
+            Part::Words(strongest_words(strongest)),
+        ],
     )
+}
+
+/// The words before the strongest level, if it is only the strongest that is shown.
+fn bound_words(at_least: bool) -> &'static [u8]
+    ensures { result.now ≡ bound_words at_least }
+{
+    if at_least { b"at least " } else { b"" }
 }
 
 /// The name of the strongest level, or `none`.
