@@ -6,7 +6,9 @@ ghost use Rattle.sgt_clients.specs.JsonText.{next_item, items_text, list_text};
 ghost use Rattle.sgt_clients.specs.LevelJson.{level_code, strongest_code, answer_text, holds_text, ties_members, ordered_members, evidence_members, run_members, split_members, strict_object, level_objects, strongest_member, levels_members, next_object, level_object, level_members};
 
 use crate::clients::Clients;
-use crate::json_text::{append_cycle, append_finding, append_name, append_order, append_reader, truth_text};
+use crate::json_text::{
+    append_cycle, append_finding, append_name, append_order, append_reader, truth_text,
+};
 use crate::level::{Answer, Level};
 use crate::level_findings::LevelFindings;
 use crate::part::Part;

@@ -55,15 +55,15 @@ pub fn cycle_edge(
     history: &IndexedHistory,
     place: usize,
     number: usize,
-    pending: Pending,
+    pending: &Pending,
 ) -> Option<CycleEdge>
-    ensures reported { IfSome result (ReportsEdge history.now place pending (placed_cycle history.now place) number) }
+    ensures reported { IfSome result (ReportsEdge history.now place pending.now (placed_cycle history.now place) number) }
     ensures some { IsSome result
-        ↔ HasEdge history.now place pending.key pending.kind (placed_cycle history.now place) number }
-    ensures all { (s : Configuration) → Legal s (reverse history.now) → WasAbout s history.now place pending.key pending.kind
+        ↔ HasEdge history.now place pending.now.key pending.now.kind (placed_cycle history.now place) number }
+    ensures all { (s : Configuration) → Legal s (reverse history.now) → WasAbout s history.now place pending.now.key pending.now.kind
         → number < length (placed_cycle history.now place) → IsSome result }
     ensures pairs { IfSome result (λ edge. (s : Configuration) → Legal s (reverse history.now)
-        → WasAbout s history.now place pending.key pending.kind → IsPairAt history.now place edge) }
+        → WasAbout s history.now place pending.now.key pending.now.kind → IsPairAt history.now place edge) }
 {
     let cycle = cycle_at(history, place)?;
     path_edge(history, place, cycle.as_slice(), number, pending)
@@ -94,11 +94,11 @@ fn path_edge(
     end: usize,
     cycle: &[Tid],
     number: usize,
-    pending: Pending,
+    pending: &Pending,
 ) -> Option<CycleEdge>
     requires { end ≤ length history.now }
-    ensures reported { IfSome result (ReportsEdge history.now end pending cycle.now number) }
-    ensures some { IsSome result ↔ HasEdge history.now end pending.key pending.kind cycle.now number }
+    ensures reported { IfSome result (ReportsEdge history.now end pending.now cycle.now number) }
+    ensures some { IsSome result ↔ HasEdge history.now end pending.now.key pending.now.kind cycle.now number }
 {
     if number >= cycle.len() {
         return None;
@@ -115,11 +115,11 @@ fn pending_edge(
     end: usize,
     from: Tid,
     to: Tid,
-    pending: Pending,
+    pending: &Pending,
 ) -> Option<CycleEdge>
     requires { end ≤ length history.now }
-    ensures reported { IfSome result (ReportsPending history.now end from to pending) }
-    ensures some { IsSome result ↔ (has_conflicting (entries_before history.now end) from pending.key pending.kind ≡ true) }
+    ensures reported { IfSome result (ReportsPending history.now end from to pending.now) }
+    ensures some { IsSome result ↔ (has_conflicting (entries_before history.now end) from pending.now.key pending.now.kind ≡ true) }
 {
     let earlier = earlier(history, end, from, pending.key, pending.kind)?;
     Some(CycleEdge {

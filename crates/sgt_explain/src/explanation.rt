@@ -46,7 +46,7 @@ pub fn append_explanation(
         lines,
     };
     if let Some(pending) = pending {
-        append_edges(&mut explained, history, pending)?;
+        append_edges(&mut explained, history, &pending)?;
     }
     append_sources(&mut explained, history)?;
     text.extend_from_slice(explained.text.as_slice())?;
@@ -57,7 +57,7 @@ pub fn append_explanation(
 fn append_edges(
     explained: &mut Explained<'_>,
     history: &IndexedHistory,
-    pending: Pending,
+    pending: &Pending,
 ) -> Result<(), NoMemory> {
     for number in 0..MOST {
         if let Some(edge) = cycle_edge(history, explained.place, number, pending) {

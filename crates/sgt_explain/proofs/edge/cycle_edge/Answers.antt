@@ -10,15 +10,17 @@ returns-clause-all c =
     c.as_slice.ensures ∙ c.in_ok-cycle.ensures.some in
     λ s legal about below.
     c.path_edge.ensures.some.1
-    (subst (λ w. HasEdge c.args.history.now c.args.place c.args.pending.key c.args.pending.kind w c.args.number) (sym same)
-    (edges_are_there s c.args.history.now c.args.place c.args.number c.args.pending.key c.args.pending.kind (search rules) legal about below))
+    (subst (λ w. HasEdge c.args.history.now c.args.place c.args.pending.now.key c.args.pending.now.kind w c.args.number) (sym same)
+    (edges_are_there s c.args.history.now c.args.place c.args.number c.args.pending.now.key c.args.pending.now.kind (search rules)
+    legal about below))
 
 pub returns-clause-pairs : goal.returns-clause-pairs
 returns-clause-pairs c =
     let same : c.as_slice.result.now ≡ placed_cycle c.args.history.now c.args.place =
     c.as_slice.ensures ∙ c.in_ok-cycle.ensures.some in
-    reported_are_pairs c.args.history.now c.args.place c.args.number c.args.pending (search rules) c.path_edge.result
-    (subst (λ w. IfSome c.path_edge.result (ReportsEdge c.args.history.now c.args.place c.args.pending w c.args.number)) same
+    reported_are_pairs c.args.history.now c.args.place c.args.number c.args.pending.now (search rules) c.path_edge.result
+    (subst (λ w. IfSome c.path_edge.result (ReportsEdge c.args.history.now c.args.place c.args.pending.now w c.args.number)) same
     c.path_edge.ensures.reported)
-    (subst (λ w. IsSome c.path_edge.result → HasEdge c.args.history.now c.args.place c.args.pending.key c.args.pending.kind w c.args.number) same
+    (subst (λ w. IsSome c.path_edge.result
+    → HasEdge c.args.history.now c.args.place c.args.pending.now.key c.args.pending.now.kind w c.args.number) same
     c.path_edge.ensures.some.0)
