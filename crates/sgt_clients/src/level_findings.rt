@@ -113,8 +113,7 @@ impl LevelFindings {
             None => is_undecided(self.answer(Level::ReadUncommitted)),
             Some(Level::ReadUncommitted) => is_undecided(self.answer(Level::ReadCommitted)),
             Some(Level::ReadCommitted) => is_undecided(self.answer(Level::SnapshotIsolation)),
-            Some(Level::SnapshotIsolation | Level::Serializable | Level::StrictSerializable) =>
-                false,
+            Some(_) => false,
         }
     }
 }
