@@ -1,5 +1,5 @@
 -- The answers for all levels are right.
-use Rattle.std.proofs.Common.{◌≡◌, Bool, true, false, List, refl, subst, Option, Some, None}
+use Rattle.std.proofs.Common.{◌≡◌, Bool, true, false, List, refl, subst, Option, Some, None, arith}
 use Rattle.std.specs.Prelude.{◌||◌, ◌&&◌, if◌then◌else◌, IfSome}
 use Rattle.std.specs.Option.{option_map_or}
 use Rattle.sgt_appends.specs.declared.transaction.Transaction.{Transaction}
@@ -176,7 +176,7 @@ committed_uncommitted_of : (c : Clients) → IsOfLevel ReadCommitted c → IsOfL
 committed_uncommitted_of c (order, is) = (order, committed_writes c.transactions.items order is)
 
 -- what the clients saw is not of the level after this one
-NotNext : Bool → Clients → Option Level → Type 0
+abbrev NotNext : Bool → Clients → Option Level → Type 0
 NotNext strict c None = ¬ IsOfLevel ReadUncommitted c
 NotNext strict c (Some ReadUncommitted) = ¬ IsOfLevel ReadCommitted c
 NotNext strict c (Some ReadCommitted) = ¬ IsOfLevel SnapshotIsolation c
@@ -186,65 +186,65 @@ NotNext strict c (Some StrictSerializable) = Unit {0}
 
 -- so no level that implies it holds
 not_uncommitted : (c : Clients) → ¬ IsOfLevel ReadUncommitted c → ¬ IsOfLevel ReadCommitted c
-not_uncommitted c no is = no (committed_uncommitted_of c is)
+not_uncommitted c fails is = fails (committed_uncommitted_of c is)
 
 not_committed : (c : Clients) → ¬ IsOfLevel ReadCommitted c → ¬ IsOfLevel SnapshotIsolation c
-not_committed c no is = no (snapshot_committed_of c is)
+not_committed c fails is = fails (snapshot_committed_of c is)
 
 not_snapshot : (c : Clients) → ¬ IsOfLevel SnapshotIsolation c → ¬ IsOfLevel Serializable c
-not_snapshot c no is = no (snapshot_holds c is)
+not_snapshot c fails is = fails (snapshot_holds c is)
 
 not_serial : (c : Clients) → ¬ IsOfLevel Serializable c → ¬ IsOfLevel StrictSerializable c
-not_serial c no is = no (strict_serial c is)
+not_serial c fails is = fails (strict_serial c is)
 
 none_stronger : (strict : Bool) (c : Clients) (strongest : Option Level) → NotNext strict c strongest → NoStronger strict c strongest
-none_stronger strict c None no ReadUncommitted above keeps = no
-none_stronger strict c None no ReadCommitted above keeps = not_uncommitted c no
-none_stronger strict c None no SnapshotIsolation above keeps = not_committed c (not_uncommitted c no)
-none_stronger strict c None no Serializable above keeps = not_snapshot c (not_committed c (not_uncommitted c no))
-none_stronger strict c None no StrictSerializable above keeps = not_serial c (not_snapshot c (not_committed c (not_uncommitted c no)))
-none_stronger strict c (Some ReadUncommitted) no ReadUncommitted above keeps = absurd (omega (arith, above))
-none_stronger strict c (Some ReadUncommitted) no ReadCommitted above keeps = no
-none_stronger strict c (Some ReadUncommitted) no SnapshotIsolation above keeps = not_committed c no
-none_stronger strict c (Some ReadUncommitted) no Serializable above keeps = not_snapshot c (not_committed c no)
-none_stronger strict c (Some ReadUncommitted) no StrictSerializable above keeps = not_serial c (not_snapshot c (not_committed c no))
-none_stronger strict c (Some ReadCommitted) no ReadUncommitted above keeps = absurd (omega (arith, above))
-none_stronger strict c (Some ReadCommitted) no ReadCommitted above keeps = absurd (omega (arith, above))
-none_stronger strict c (Some ReadCommitted) no SnapshotIsolation above keeps = no
-none_stronger strict c (Some ReadCommitted) no Serializable above keeps = not_snapshot c no
-none_stronger strict c (Some ReadCommitted) no StrictSerializable above keeps = not_serial c (not_snapshot c no)
-none_stronger strict c (Some SnapshotIsolation) no ReadUncommitted above keeps = absurd (omega (arith, above))
-none_stronger strict c (Some SnapshotIsolation) no ReadCommitted above keeps = absurd (omega (arith, above))
-none_stronger strict c (Some SnapshotIsolation) no SnapshotIsolation above keeps = absurd (omega (arith, above))
-none_stronger strict c (Some SnapshotIsolation) no Serializable above keeps = no
-none_stronger strict c (Some SnapshotIsolation) no StrictSerializable above keeps = not_serial c no
-none_stronger strict c (Some Serializable) no ReadUncommitted above keeps = absurd (omega (arith, above))
-none_stronger strict c (Some Serializable) no ReadCommitted above keeps = absurd (omega (arith, above))
-none_stronger strict c (Some Serializable) no SnapshotIsolation above keeps = absurd (omega (arith, above))
-none_stronger strict c (Some Serializable) no Serializable above keeps = absurd (omega (arith, above))
-none_stronger strict c (Some Serializable) no StrictSerializable above keeps = no (keeps refl)
-none_stronger strict c (Some StrictSerializable) no ReadUncommitted above keeps = absurd (omega (arith, above))
-none_stronger strict c (Some StrictSerializable) no ReadCommitted above keeps = absurd (omega (arith, above))
-none_stronger strict c (Some StrictSerializable) no SnapshotIsolation above keeps = absurd (omega (arith, above))
-none_stronger strict c (Some StrictSerializable) no Serializable above keeps = absurd (omega (arith, above))
-none_stronger strict c (Some StrictSerializable) no StrictSerializable above keeps = absurd (omega (arith, above))
+none_stronger strict c None fails ReadUncommitted above keeps = fails
+none_stronger strict c None fails ReadCommitted above keeps = not_uncommitted c fails
+none_stronger strict c None fails SnapshotIsolation above keeps = not_committed c (not_uncommitted c fails)
+none_stronger strict c None fails Serializable above keeps = not_snapshot c (not_committed c (not_uncommitted c fails))
+none_stronger strict c None fails StrictSerializable above keeps = not_serial c (not_snapshot c (not_committed c (not_uncommitted c fails)))
+none_stronger strict c (Some ReadUncommitted) fails ReadUncommitted above keeps = absurd (omega (arith, above))
+none_stronger strict c (Some ReadUncommitted) fails ReadCommitted above keeps = fails
+none_stronger strict c (Some ReadUncommitted) fails SnapshotIsolation above keeps = not_committed c fails
+none_stronger strict c (Some ReadUncommitted) fails Serializable above keeps = not_snapshot c (not_committed c fails)
+none_stronger strict c (Some ReadUncommitted) fails StrictSerializable above keeps = not_serial c (not_snapshot c (not_committed c fails))
+none_stronger strict c (Some ReadCommitted) fails ReadUncommitted above keeps = absurd (omega (arith, above))
+none_stronger strict c (Some ReadCommitted) fails ReadCommitted above keeps = absurd (omega (arith, above))
+none_stronger strict c (Some ReadCommitted) fails SnapshotIsolation above keeps = fails
+none_stronger strict c (Some ReadCommitted) fails Serializable above keeps = not_snapshot c fails
+none_stronger strict c (Some ReadCommitted) fails StrictSerializable above keeps = not_serial c (not_snapshot c fails)
+none_stronger strict c (Some SnapshotIsolation) fails ReadUncommitted above keeps = absurd (omega (arith, above))
+none_stronger strict c (Some SnapshotIsolation) fails ReadCommitted above keeps = absurd (omega (arith, above))
+none_stronger strict c (Some SnapshotIsolation) fails SnapshotIsolation above keeps = absurd (omega (arith, above))
+none_stronger strict c (Some SnapshotIsolation) fails Serializable above keeps = fails
+none_stronger strict c (Some SnapshotIsolation) fails StrictSerializable above keeps = not_serial c fails
+none_stronger strict c (Some Serializable) fails ReadUncommitted above keeps = absurd (omega (arith, above))
+none_stronger strict c (Some Serializable) fails ReadCommitted above keeps = absurd (omega (arith, above))
+none_stronger strict c (Some Serializable) fails SnapshotIsolation above keeps = absurd (omega (arith, above))
+none_stronger strict c (Some Serializable) fails Serializable above keeps = absurd (omega (arith, above))
+none_stronger strict c (Some Serializable) fails StrictSerializable above keeps = fails (keeps refl)
+none_stronger strict c (Some StrictSerializable) fails ReadUncommitted above keeps = absurd (omega (arith, above))
+none_stronger strict c (Some StrictSerializable) fails ReadCommitted above keeps = absurd (omega (arith, above))
+none_stronger strict c (Some StrictSerializable) fails SnapshotIsolation above keeps = absurd (omega (arith, above))
+none_stronger strict c (Some StrictSerializable) fails Serializable above keeps = absurd (omega (arith, above))
+none_stronger strict c (Some StrictSerializable) fails StrictSerializable above keeps = absurd (omega (arith, above))
 
 -- a level whose answer is neither yes nor undecided does not hold; those of serial orders are never undecided
 not_holds : (level : Level) (c : Clients) (a : Answer) → IsAnswer level c a → is_yes a ≡ false → is_undecided a ≡ false
     → ¬ IsOfLevel level c
-not_holds level c Yes right no decided = absurd (cc)
-not_holds level c No right no decided = right
-not_holds level c Undecided right no decided = absurd (cc)
+not_holds level c Yes right fails decided = absurd (cc)
+not_holds level c No right fails decided = right
+not_holds level c Undecided right fails decided = absurd (cc)
 
 serial_not_holds : (c : Clients) (a : Answer) → IsAnswer Serializable c a → is_yes a ≡ false → ¬ IsOfLevel Serializable c
-serial_not_holds c Yes right no = absurd (cc)
-serial_not_holds c No right no = right
-serial_not_holds c Undecided right no = absurd (right.0 refl)
+serial_not_holds c Yes right fails = absurd (cc)
+serial_not_holds c No right fails = right
+serial_not_holds c Undecided right fails = absurd (right.0 refl)
 
 strict_not_holds : (c : Clients) (a : Answer) → IsAnswer StrictSerializable c a → is_yes a ≡ false → ¬ IsOfLevel StrictSerializable c
-strict_not_holds c Yes right no = absurd (cc)
-strict_not_holds c No right no = right
-strict_not_holds c Undecided right no = absurd (right.1 refl)
+strict_not_holds c Yes right fails = absurd (cc)
+strict_not_holds c No right fails = right
+strict_not_holds c Undecided right fails = absurd (right.1 refl)
 
 second_false : (a b : Bool) → (a && b) ≡ false → a ≡ true → b ≡ false
 second_false true b is a_is = is
