@@ -42,7 +42,7 @@ PAGES = [
 # Pages of worked programs, which are not among the lines that are counted.
 WORKED = ["examples/clients/README.md", "examples/cookbook/README.md", "examples/payments/README.md", "examples/store/README.md"]
 PAGES += WORKED
-ALL_LINES = 2860
+ALL_LINES = 2900
 LINE = 120
 HELP_LINE = 100
 
@@ -587,6 +587,92 @@ def have_the_procedures_of_the_cookbook(_sgt):
     return f"{len(shown)} procedures"
 
 
+# The order of refusals
+
+
+def order_of(what):
+    """The replies that refuse such an event, in the order that the page has: behind the words up to the next semicolon or stop."""
+    text = " ".join(text_of("docs/FORMATS.md").split())
+    found = re.search(rf"{what}: ((?:`[a-z ]+`(?:, )?)+)[;.]", text)
+    if not found:
+        raise Differs(f"docs/FORMATS.md has no order of refusals of {what!r}")
+    return re.findall(r"`([^`]+)`", found.group(1))
+
+
+# Each event with all replies that could refuse it: transaction 0 was aborted in the middle of its procedure, 1 is there, and has
+# overwritten what 2 wrote, who is at its end. No start is left.
+REFUSED = [
+    ('["write",9,3,1,1000000000000000]', {"unknown", "bad args"}),
+    ('["write",0,3,1,1000000000000000]', {"over", "not ended", "bad args"}),
+    ('["write",1,3,1,1000000000000000]', {"not ended", "bad args"}),
+    ('["write",2,3,1,1000000000000000]', {"bad args"}),
+    ('["remove",1,3,1]', {"not ended"}),
+    ('["commit",9]', {"unknown"}),
+    ('["commit",0]', {"over", "not ended"}),
+    ('["commit",1]', {"not ended", "waits"}),
+    ('["start",99,[1000000000000000]]', {"no procedure", "bad args", "spent", "full"}),
+    ('["start",5,[1000000000000000]]', {"bad args", "spent", "full"}),
+    ('["start",5,[]]', {"spent", "full"}),
+]
+REFUSING = '{"limits":[2,3],"accounts":[],"procedures":[[0,[["put",3,1,1],["put",3,2,1]]]]}'
+REFUSED_BEHIND = ['["start",5,[]]', '["step",0]', '["quit",0]', '["start",5,[]]', '["begin"]', '["write",2,3,1,7]', '["step",1]']
+
+
+def have_the_order_of_refusals(sgt):
+    """Of all replies that could refuse an event the first one comes, in the order of the page. A record out of range has no reply."""
+    orders = {"start": order_of("a start")}
+    others = order_of("any other event")
+    orders |= {"write": others + order_of("then a caller's access"), "commit": others + order_of("a commit")}
+    orders["remove"] = orders["write"]
+    lines = [REFUSING, *REFUSED_BEHIND, *(line for line, _ in REFUSED)]
+    ran = subprocess.run([sgt, "script"], input="\n".join(lines).encode(), capture_output=True, timeout=SECONDS, check=False)
+    replies = ran.stdout.decode().split("\n")[len(REFUSED_BEHIND) :]
+    for (line, could), reply in zip(REFUSED, replies):
+        order = orders[json.loads(line)[0]]
+        same(f"the reply to {line}", next(it for it in order if it in could), "over" if reply.startswith("over ") else reply)
+    for line in ('["read",9,8,1]', '["read",9,3,1000000000000000]', '["write",9,8,1,1]', '["remove",9,3,-1000000000000000]'):
+        same(line, "line 2: bad line", accepted(sgt, [OPENING, line]))
+    return f"{len(REFUSED)} events"
+
+
+# What is past the specification
+
+# The words of its grammar, its replies, commands and errors.
+SPECIFIED = set(
+    "limits accounts procedures start step commit quit cut job look put let ask if answer arg reg sum diff less most same".split()
+)
+SPECIFIED_REPLIES = set(
+    "started,no procedure,bad args,spent,full,unknown,over,read,none,wrote,ended,not ended,waits,committed,aborted,fell,refused,cut,"
+    "still live,quit,asked,cycle,gave,no memory".split(",")
+)
+SPECIFIED_COMMANDS = {"script", "bank", "help"}
+SPECIFIED_ERRORS = set(
+    "no opening,not JSON,bad line,bad limits,bad opening,procedure,shape,flaw,long line,input too long,too many jobs,workers not started,"
+    "receipts differ,reading failed,writing failed,no memory".split(",")
+)
+
+
+def name_all_that_is_past_the_specification(_sgt):
+    """The list of DECISIONS.md has each word of the grammar, reply, command and error that the specification does not have."""
+    listed = text_of("docs/DECISIONS.md").split("past, its specification")[1]
+    rules = "\n".join("\n".join(block) for block in blocks_of("docs/FORMATS.md", "ebnf")).split("operation =")[0]
+    words = set(re.findall(r'\["(\w+)"', rules))
+    words |= {word for group in re.findall(r"'\[\"' , \(([^)]*)\)", rules) for word in re.findall(r"\w+", group)}
+    replies = "\n".join(rules.split("reply     =")[1].split(";\n")[:4])
+    replies = {word.strip() for word in re.findall(r"'([^']+)'", replies) if word.strip()}
+    faults = (CRATES / "sgt_input/src/fault.rt").read_text(encoding="utf-8").split("fn words")[1]
+    errors = {re.sub("^line 1: ", "", text).strip() for text in re.findall(r'=> "([^"]+)"', faults.split("}\n    }")[0])}
+    commands = set(re.findall(r"^  (\w+)  +[A-Z]", (TESTS / "expected" / "help.txt").read_text(), re.MULTILINE))
+    past = {
+        *(f"`{word}`" for word in words - SPECIFIED),
+        *(f"`{word}`" for word in replies - SPECIFIED_REPLIES),
+        *(f"`{word}`" for word in errors - SPECIFIED_ERRORS),
+        *(f"`sgt {word}`" for word in commands - SPECIFIED_COMMANDS),
+    }
+    fail_if([f"DECISIONS.md does not list {word}" for word in sorted(past) if word not in listed])
+    return f"{len(past)} words"
+
+
 def have_the_positions_that_the_program_gives(sgt):
     rows = [line for _, line in parts_of("docs/FORMATS.md")[0] if re.match(r"^\| `(\[|\d)[^`]*` \| `(top|[\d ]+)` \|", line)]
     for row in rows:
@@ -617,7 +703,9 @@ def main(path):
         have_a_grammar_that_the_program_accepts,
         have_the_five_procedures,
         have_the_procedures_of_the_cookbook,
-    have_the_positions_that_the_program_gives,
+        have_the_positions_that_the_program_gives,
+        have_the_order_of_refusals,
+        name_all_that_is_past_the_specification,
     ]
     return run_cases(cases, os.path.abspath(path), of="pages")
 
