@@ -257,6 +257,14 @@ def reads_accesses_of_callers(sgt):
     are_answered(sgt, opening("[8,100]", procedures=f"{TWO_ARGUMENTS},{TWO_WRITES}"), ACCESSES)
 
 
+def takes_any_number_of_accesses_of_a_caller(sgt):
+    many = 20_000
+    writes = [(f'["write",0,7,{number},{-number}]', f"wrote 7/{number} {-number}") for number in range(many)]
+    reads = [(f'["read",0,7,{number}]', f"read 7/{number} {-number}") for number in range(many)]
+    table = [('["begin"]', "started 0"), *writes, *reads, ('["commit",0]', "committed none")]
+    are_answered(sgt, opening(), "\n".join(f"{reply}: {line}" for line, reply in table))
+
+
 def reads_either_spelling(sgt):
     are_answered(sgt, opening("[8,100]", procedures=TWO_ARGUMENTS), SPELLINGS)
 
