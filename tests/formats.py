@@ -1690,6 +1690,7 @@ def writes_each_reply_before_it_reads_on(sgt):
 CASES = [
     reads_events,
     reads_accesses_of_callers,
+    takes_any_number_of_accesses_of_a_caller,
     reads_either_spelling,
     takes_no_space_inside_a_number,
     reads_starts,
