@@ -301,6 +301,21 @@ def name_clauses_that_exist(_sgt):
     return f"{count} clauses"
 
 
+def claim_of_statuses_what_each_contract_says(_sgt):
+    """Each call of the library that visits an engine says when it is refused, and what is unchanged. docs/PROOFS.md says so of all."""
+    found, count = [], 0
+    for name, texts in contracts().items():
+        for text in texts:
+            if not name.startswith("sgt_") or name == "sgt_close" or "engine: &mut Handle" not in text:
+                continue
+            count += 1
+            found += [f"{name} has no clause {what}" for what in ("visits", "unchanged|same") if not re.search(rf"ensures (?:{what}) ", text)]
+    fail_if(found)
+    if "`unchanged`, or `same`, of each call" not in text_of("docs/PROOFS.md"):
+        raise Differs("docs/PROOFS.md does not say what a status leaves unchanged")
+    return f"{count} calls"
+
+
 def have_the_headline_word_for_word(_sgt):
     headline = re.search(r"> (For every list.*?)\n\n", text_of("docs/HEADLINE.md"), re.DOTALL).group(1)
     words = " ".join(headline.replace("\n> ", " ").split())
@@ -693,6 +708,7 @@ def main(path):
         have_the_lists_that_a_script_makes,
         name_the_files_to_trust,
         name_clauses_that_exist,
+        claim_of_statuses_what_each_contract_says,
         have_the_headline_word_for_word,
         name_each_test_and_tool,
         have_the_limits_of_the_sources,
