@@ -578,30 +578,6 @@ def have_a_grammar_that_the_program_accepts(sgt):
     return "800 events and jobs, 450 openings, procedures and records"
 
 
-def have_the_five_procedures(sgt):
-    """The texts of the page run as the program's own: the same calls give the same replies."""
-    texts = "\n".join(blocks_of("docs/FORMATS.md", "json")[0]).split("\n\n")
-    procedures = [json.loads(text) for text in texts]
-    same("how many procedures there are", 5, len(procedures))
-    opening = {"limits": [8, 1000], "accounts": [[1, 101, 500, 1000], [2, 102, 30, -20]], "procedures": procedures}
-    calls = [(0, [1]), (0, [9]), (1, [1, 50]), (1, [1, -5]), (2, [1, -501]), (2, [2, 40]), (3, [1, 2]), (3, [1, 1]), (4, [2, 70]), (4, [2, 10**6])]
-
-    def ran(first):
-        jobs = [json.dumps(["job", first + number, args]) for number, args in calls]
-        words = [sgt, "bank", "--workers", "1"]
-        return subprocess.run(words, input="\n".join([json.dumps(opening), *jobs]).encode(), capture_output=True, timeout=SECONDS, check=False).stdout
-
-    same("what the procedures of the page do", ran(0).decode(), ran(5).decode())
-
-
-def have_the_procedures_of_the_cookbook(_sgt):
-    """Each procedure of the page is the one of its jobs, in their order."""
-    opening = json.loads((EXAMPLES / "cookbook" / "jobs.jsonl").read_text().split("\n", 1)[0])
-    shown = [json.loads("\n".join(lines)) for lines in blocks_of("examples/cookbook/README.md", "json")]
-    same("the procedures", opening["procedures"], shown)
-    return f"{len(shown)} procedures"
-
-
 # The order of refusals
 
 
@@ -688,6 +664,30 @@ def name_all_that_is_past_the_specification(_sgt):
     return f"{len(past)} words"
 
 
+def have_the_five_procedures(sgt):
+    """The texts of the page run as the program's own: the same calls give the same replies."""
+    texts = "\n".join(blocks_of("docs/FORMATS.md", "json")[0]).split("\n\n")
+    procedures = [json.loads(text) for text in texts]
+    same("how many procedures there are", 5, len(procedures))
+    opening = {"limits": [8, 1000], "accounts": [[1, 101, 500, 1000], [2, 102, 30, -20]], "procedures": procedures}
+    calls = [(0, [1]), (0, [9]), (1, [1, 50]), (1, [1, -5]), (2, [1, -501]), (2, [2, 40]), (3, [1, 2]), (3, [1, 1]), (4, [2, 70]), (4, [2, 10**6])]
+
+    def ran(first):
+        jobs = [json.dumps(["job", first + number, args]) for number, args in calls]
+        words = [sgt, "bank", "--workers", "1"]
+        return subprocess.run(words, input="\n".join([json.dumps(opening), *jobs]).encode(), capture_output=True, timeout=SECONDS, check=False).stdout
+
+    same("what the procedures of the page do", ran(0).decode(), ran(5).decode())
+
+
+def have_the_procedures_of_the_cookbook(_sgt):
+    """Each procedure of the page is the one of its jobs, in their order."""
+    opening = json.loads((EXAMPLES / "cookbook" / "jobs.jsonl").read_text().split("\n", 1)[0])
+    shown = [json.loads("\n".join(lines)) for lines in blocks_of("examples/cookbook/README.md", "json")]
+    same("the procedures", opening["procedures"], shown)
+    return f"{len(shown)} procedures"
+
+
 def have_the_positions_that_the_program_gives(sgt):
     rows = [line for _, line in parts_of("docs/FORMATS.md")[0] if re.match(r"^\| `(\[|\d)[^`]*` \| `(top|[\d ]+)` \|", line)]
     for row in rows:
@@ -717,11 +717,11 @@ def main(path):
         have_a_grammar_of_the_examples,
         have_a_grammar_that_refuses_bad_lines,
         have_a_grammar_that_the_program_accepts,
-        have_the_five_procedures,
-        have_the_procedures_of_the_cookbook,
-        have_the_positions_that_the_program_gives,
         have_the_order_of_refusals,
         name_all_that_is_past_the_specification,
+        have_the_five_procedures,
+        have_the_procedures_of_the_cookbook,
+    have_the_positions_that_the_program_gives,
     ]
     return run_cases(cases, os.path.abspath(path), of="pages")
 
