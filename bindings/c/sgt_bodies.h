@@ -34,23 +34,27 @@ static uint32_t has_ended(const sgt_transaction *t)
     return t->status == SGT_UNDONE || (t->reply.kind == SGT_OVER && t->reply.cause == SGT_BY_QUIT) ? SGT_UNDONE : SGT_MISUSE;
 }
 
-/* Makes an access of a transaction, and notes what came of it. */
+/* Notes what came of an access, while the thread has the lock: a hook may be called before the access returns, and may not return. */
+static uint32_t note_access(sgt_transaction *t, uint32_t made, const sgt_reply *reply)
+{
+    if (made == SGT_STALE) return end_cut_off(t);
+    if (made == SGT_OK) t->reply = *reply, t->ends = t->shared->desk.ended;
+    if (made == SGT_OK && (reply->kind == SGT_ABORTED || reply->kind == SGT_OVER)) return end_try(t), has_ended(t);
+    const uint32_t status = made == SGT_OK && reply->kind == SGT_BAD_ARGS ? (uint32_t)SGT_BAD_CALL : made;
+    if (status != SGT_OK && t->status == SGT_OK) t->status = status;
+    return status;
+}
+
+/* Makes an access of a transaction. */
 static uint32_t access_in(sgt_transaction *t, const struct asked *it)
 {
     if (!is_made(t) || t->tries == 0) return SGT_BAD_CALL;
     if (!t->is_live) return has_ended(t);
     sgt_reply reply = {0};
-    uint32_t status = enter_for(t->shared, &t->ticket);
-    if (status == SGT_OK) {
-        status = make(t->shared, &t->ticket, it, &reply);
-        if (status == SGT_OK) t->reply = reply, t->ends = t->shared->desk.ended;
-        leave(t->shared, status);
-    }
-    if (status == SGT_STALE) return end_cut_off(t);
-    if (status == SGT_OK && (reply.kind == SGT_ABORTED || reply.kind == SGT_OVER)) return end_try(t), has_ended(t);
-    if (status == SGT_OK && reply.kind == SGT_BAD_ARGS) status = SGT_BAD_CALL;
-    if (status != SGT_OK && t->status == SGT_OK) t->status = status;
-    return status;
+    const uint32_t status = enter_for(t->shared, &t->ticket);
+    if (status != SGT_OK) return note_access(t, status, &reply);
+    const uint32_t made = make(t->shared, &t->ticket, it, &reply);
+    return leave(t->shared, note_access(t, made, &reply));
 }
 
 /* Starts the next try, alone or not: after a cycle, not before one of those that were in the way may have ended. */
@@ -85,7 +89,7 @@ static uint32_t refuse_in_body(sgt_transaction *t)
     return SGT_MISUSE;
 }
 
-/* Commits the last try, or aborts it if an access of it failed, or the commit does. */
+/* Commits the last try, or aborts it if an access of it failed, or the commit does. Its end is noted while the thread has the lock. */
 static uint32_t commit_try(sgt_shared *s, sgt_transaction *t, struct deadline *until)
 {
     uint32_t status = t->status;
@@ -94,19 +98,31 @@ static uint32_t commit_try(sgt_shared *s, sgt_transaction *t, struct deadline *u
     if (status != SGT_OK) abandon(s, &t->ticket);
     else t->reply = reply, t->sequence = sequence_of(s, &reply);
     t->ends = s->desk.ended;
-    return status;
+    if (status == SGT_STALE) return end_cut_off(t);
+    if (status == SGT_OK) return end_try(t);
+    t->is_live = 0;
+    return t->status = status;
 }
 
 static uint32_t commit_until(sgt_transaction *t, struct deadline *until)
 {
     if (!is_made(t) || t->tries == 0) return SGT_BAD_CALL;
     if (!t->is_live) return t->status;
-    uint32_t status = enter_for(t->shared, &t->ticket);
-    if (status == SGT_OK) status = leave(t->shared, commit_try(t->shared, t, until));
-    if (status == SGT_STALE) return end_cut_off(t);
-    if (status == SGT_OK) return end_try(t);
+    const uint32_t status = enter_for(t->shared, &t->ticket);
+    if (status == SGT_OK) return leave(t->shared, commit_try(t->shared, t, until));
     t->is_live = 0;
     return t->status = status;
+}
+
+/* Aborts the last try. Its end is noted while the thread has the lock. */
+static uint32_t quit_try(sgt_shared *s, sgt_transaction *t)
+{
+    sgt_reply reply = {0};
+    const uint32_t status = make(s, &t->ticket, &(struct asked){.kind = SGT_QUIT}, &reply);
+    if (status == SGT_STALE) return end_cut_off(t);
+    if (status != SGT_OK) return status;
+    t->reply = reply;
+    return end_try(t);
 }
 
 /* Bodies */

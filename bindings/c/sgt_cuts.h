@@ -81,9 +81,10 @@ static bool await_pause(sgt_shared *s, struct deadline *until)
         cut_if_due(s);
         struct deadline pause = {.at = s->plan.pause < INT64_MAX ? (int64_t)s->plan.pause : INT64_MAX};
         const bool is_own = until->at < pause.at;
-        if (!s->plan.pauses || rest(s, &s->changed, is_own ? until : &pause)) continue;
+        if (!s->plan.pauses) break;
+        const bool in_time = rest(s, &s->changed, is_own ? until : &pause);
         until->is_over |= pause.is_over;
-        is_late = is_own || until->is_over;
+        is_late = until->is_over || (is_own && !in_time);
     }
     return !s->plan.pauses;
 }

@@ -96,12 +96,12 @@ static void end_call(void)
 
 /* Entering and leaving */
 
-/* Ends a call that found the engine closed. */
-static uint32_t leave_closed(sgt_shared *s)
+/* Ends a call that must not call a hook: a cut that is due is left to the next call that may. */
+static inline uint32_t leave_quietly(sgt_shared *s, uint32_t status)
 {
     unlock(s);
     if (hooks) end_call();
-    return SGT_CLOSED;
+    return status;
 }
 
 static inline uint32_t enter(sgt_shared *s)
@@ -109,7 +109,7 @@ static inline uint32_t enter(sgt_shared *s)
     if (!s) return SGT_CLOSED;
     if (is_in_child(s) || (hooks && !begin_call(s))) return SGT_MISUSE;
     lock(s);
-    return s->is_open ? (uint32_t)SGT_OK : leave_closed(s);
+    return s->is_open ? (uint32_t)SGT_OK : leave_quietly(s, SGT_CLOSED);
 }
 
 /* Enters for a call that names a transaction. */
@@ -128,9 +128,7 @@ static inline uint32_t leave(sgt_shared *s, uint32_t status)
 {
     if (s->reports) report(s);
     if (s->plan.after && s->before_cut == 0) cut_if_due(s);
-    unlock(s);
-    if (hooks) end_call();
-    return status;
+    return leave_quietly(s, status);
 }
 
 /* Hooks */

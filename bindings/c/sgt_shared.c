@@ -153,7 +153,7 @@ uint32_t sgt_shared_abandon(sgt_shared *shared, const sgt_ticket *ticket)
 {
     if (!shared || !ticket || is_in_child(shared) || !is_in_hook(shared)) {
         const uint32_t status = enter_for(shared, ticket);
-        return status == SGT_OK ? leave(shared, abandon(shared, ticket)) : status;
+        return status == SGT_OK ? leave_quietly(shared, abandon(shared, ticket)) : status;
     }
     if (ticket->engine != shared->number) return SGT_MISUSE;
     if (ticket->part != shared->part) return SGT_STALE;
@@ -225,14 +225,10 @@ uint32_t sgt_transaction_commit(sgt_transaction *transaction, int64_t wait_ns)
 
 uint32_t sgt_transaction_quit(sgt_transaction *transaction)
 {
-    sgt_reply reply = {0};
     if (!is_made(transaction) || transaction->tries == 0) return SGT_BAD_CALL;
     if (!transaction->is_live) return transaction->status;
-    const uint32_t status = sgt_shared_quit(transaction->shared, &transaction->ticket, &reply);
-    if (status == SGT_STALE) return end_cut_off(transaction);
-    if (status != SGT_OK) return status;
-    transaction->reply = reply;
-    return end_try(transaction);
+    const uint32_t status = enter_for(transaction->shared, &transaction->ticket);
+    return status == SGT_OK ? leave(transaction->shared, quit_try(transaction->shared, transaction)) : status;
 }
 
 uint32_t sgt_shared_transact(sgt_shared *shared, sgt_body body, void *context, const sgt_transact_options *options,
@@ -319,14 +315,14 @@ uint32_t sgt_shared_drain(sgt_shared *shared, int64_t wait_ns, sgt_ended *ended,
     uint32_t status = count && ended && capacity > 0 ? enter(shared) : (uint32_t)SGT_BAD_CALL;
     if (status != SGT_OK) return status;
     if (!shared->config.keeps_ended) return leave(shared, SGT_BAD_CALL);
-    if (await_queued(shared, &until) != SGT_OK) return leave_closed(shared);
+    if (await_queued(shared, &until) != SGT_OK) return leave_quietly(shared, SGT_CLOSED);
     struct queue *queue = &shared->queue;
     const size_t taken = queue->count < capacity ? queue->count : capacity;
     if (taken > 0) memcpy(ended, queue->at + queue->first, taken * sizeof *ended);
     queue->count -= taken;
     queue->first = queue->count > 0 ? queue->first + taken : 0;
     *count = taken;
-    return leave(shared, SGT_OK);
+    return leave_quietly(shared, SGT_OK); /* a hook that does not return would lose what was taken */
 }
 
 void sgt_shared_watch(uint32_t (*interrupted)(void *context), void *context)

@@ -345,6 +345,8 @@ uint32_t sgt_shared_quit(sgt_shared *shared, const sgt_ticket *ticket, sgt_reply
 /*
  * Aborts a transaction that is not needed any more, for destructors: as sgt_shared_quit does, or, from inside a hook of the same engine, as
  * soon as the hook has returned. Nothing is done if it has ended. SGT_STALE.
+ *
+ * It calls no hook, so nothing is thrown: a cut that is due is left to a later call. So is that of a transaction function that is left.
  */
 uint32_t sgt_shared_abandon(sgt_shared *shared, const sgt_ticket *ticket);
 
@@ -389,8 +391,8 @@ uint32_t sgt_shared_entries(sgt_shared *shared, uint64_t *count, uint64_t *part)
  * and how many these are to `count`. If there is none it waits for one; `count` is 0 if none has come by the deadline. SGT_CLOSED if the
  * engine is closed meanwhile: so a thread that drains without a deadline can be ended.
  *
- * Each call is handed out once. Threads that drain at the same time get different calls, so order them by `sequence`. SGT_BAD_CALL also
- * if `keeps_ended` is not 1.
+ * Each call is handed out once. Threads that drain at the same time get different calls, so order them by `sequence`. It calls no hook, so
+ * that nothing that was taken is lost: a cut that is due is left to a later call. SGT_BAD_CALL also if `keeps_ended` is not 1.
  */
 uint32_t sgt_shared_drain(sgt_shared *shared, int64_t wait_ns, sgt_ended *ended, size_t capacity, uint64_t *count);
 
