@@ -89,19 +89,23 @@ static uint32_t refuse_in_body(sgt_transaction *t)
     return SGT_MISUSE;
 }
 
-/* Commits the last try, or aborts it if an access of it failed, or the commit does. Its end is noted while the thread has the lock. */
+/*
+ * Commits the last try, or aborts it if an access of it failed, or the commit does. Its end is noted while the thread has the lock: before
+ * it rests, too, as it may not come back.
+ */
 static uint32_t commit_try(sgt_shared *s, sgt_transaction *t, struct deadline *until)
 {
     uint32_t status = t->status;
     sgt_reply reply = {0};
+    t->is_live = 0, t->status = SGT_TIMED_OUT;
+    until->aborts = true;
     if (status == SGT_OK) status = commit(s, &t->ticket, until, &reply, &t->waits);
+    if (is_in_child(s)) return t->status = SGT_MISUSE;
     if (status != SGT_OK) abandon(s, &t->ticket);
     else t->reply = reply, t->sequence = sequence_of(s, &reply);
     t->ends = s->desk.ended;
     if (status == SGT_STALE) return end_cut_off(t);
-    if (status == SGT_OK) return end_try(t);
-    t->is_live = 0;
-    return t->status = status;
+    return status == SGT_OK ? end_try(t) : (t->status = status);
 }
 
 static uint32_t commit_until(sgt_transaction *t, struct deadline *until)
@@ -127,64 +131,44 @@ static uint32_t quit_try(sgt_shared *s, sgt_transaction *t)
 
 /* Bodies */
 
-/* What is to be done where a body does not return: glibc's longjmp, too, calls what is noted in `jump`. */
-struct guard {
+/* A body under way. */
+struct body {
+    sgt_body function;
+    void *context;
     sgt_transaction *transaction;
-#ifdef __GLIBC__
-    struct _pthread_cleanup_buffer jump;
-#endif
+    sgt_transaction given;   /* what that was when the body was called */
+    uint32_t reported;       /* what it returns */
 };
 
-#ifdef __GLIBC__
-void _pthread_cleanup_push(struct _pthread_cleanup_buffer *buffer, void (*routine)(void *), void *argument);
-void _pthread_cleanup_pop(struct _pthread_cleanup_buffer *buffer, int executes);
-#endif
+static void call_body(void *of)
+{
+    struct body *it = of;
+    it->reported = it->function(it->context, it->transaction);
+}
 
 /* Aborts the transaction of a body that does not return. */
-static void break_body_off(void *transaction)
+static void break_body_off(void *of)
 {
-    const sgt_transaction *t = transaction;
-    sgt_shared_abandon(t->shared, &t->ticket);
+    const struct body *it = of;
+    sgt_shared_abandon(it->given.shared, &it->given.ticket);
 }
 
-static void begin_guard(struct guard *guard)
+/* Whether the transaction is still that with which the body was called. */
+static bool is_given(const struct body *it)
 {
-#ifdef __GLIBC__
-    _pthread_cleanup_push(&guard->jump, break_body_off, guard->transaction);
-#else
-    (void)guard;
-#endif
+    const sgt_ticket *is = &it->transaction->ticket, *was = &it->given.ticket;
+    return it->transaction->shared == it->given.shared && is->engine == was->engine && is->part == was->part && is->tid == was->tid;
 }
 
-static void end_guard(struct guard *guard)
+/* Ends the try of a body that has put another transaction in the place of its own. Both are aborted, as nobody else may have either. */
+static uint32_t refuse_another(struct body *it)
 {
-#ifdef __GLIBC__
-    _pthread_cleanup_pop(&guard->jump, 0);
-#else
-    (void)guard;
-#endif
-}
-
-/* Ends the guard of a body that threw an exception, or ended its thread. */
-static void break_guard(void *guard)
-{
-    end_guard(guard);
-    break_body_off(((struct guard *)guard)->transaction);
-}
-
-/* Calls the body. What it returns. */
-static uint32_t call(sgt_body body, void *context, sgt_transaction *t)
-{
-    struct guard guard = {.transaction = t};
-    uint32_t reported = 0;
-    t->is_live = IN_BODY;
-    begin_guard(&guard);
-    pthread_cleanup_push(break_guard, &guard);
-    reported = body(context, t);
-    pthread_cleanup_pop(0);
-    end_guard(&guard);
-    if (t->is_live) t->is_live = 1;
-    return reported;
+    sgt_transaction *t = it->transaction;
+    if (is_made(t) && t->is_live) sgt_shared_abandon(t->shared, &t->ticket);
+    break_body_off(it);
+    *t = it->given;
+    t->is_live = 0;
+    return t->status = SGT_MISUSE;
 }
 
 /* Ends a try as its body says. It is aborted if an access of it failed. */
@@ -194,6 +178,35 @@ static uint32_t end_as_reported(sgt_transaction *t, uint32_t reported, struct de
     const uint32_t failed = reported == SGT_BODY_QUIT ? t->status : (uint32_t)SGT_BAD_CALL;
     const uint32_t status = sgt_transaction_quit(t);
     return status == SGT_OK ? failed : status;
+}
+
+/* What is told of the call of a transaction function: also if a hook does not return when that has been carried out. */
+struct told {
+    const sgt_transaction *transaction;
+    sgt_shared_outcome *outcome;
+    bool returns;
+    uint32_t status;         /* that it returns */
+};
+
+static void tell(void *of)
+{
+    const struct told *it = of;
+    const sgt_transaction *t = it->transaction;
+    it->outcome->tries = t->tries, it->outcome->waits = t->waits;
+    const bool is_carried_out = !t->is_live && t->status == SGT_OK && t->reply.kind != 0;
+    if (it->returns ? it->status != SGT_OK : !is_carried_out) return;
+    it->outcome->ticket = t->ticket, it->outcome->sequence = t->sequence, it->outcome->reply = t->reply;
+}
+
+/* Calls the body for a try, and ends that. */
+static uint32_t run_body(sgt_body body, void *context, sgt_transaction *t, struct deadline *until)
+{
+    t->is_live = IN_BODY;
+    struct body it = {.function = body, .context = context, .transaction = t, .given = *t};
+    call_guarded(call_body, break_body_off, &it);
+    if (!is_given(&it)) return refuse_another(&it);
+    if (t->is_live) t->is_live = 1;
+    return end_as_reported(t, it.reported, until);
 }
 
 #endif
