@@ -190,6 +190,7 @@ def sanitized(scratch, flags):
     run([built(scratch, compiler, C_FLAGS, C_SOURCES / "shared_calls.c", flags, [SHARED])])
     run([built(scratch, compiler, C_FLAGS, C_SOURCES / "shared_hazards.c", [*flags, *WRAPS_LOCK], [SHARED])])
     all_held(run([built(scratch, compiler, C_FLAGS, C_SOURCES / "shared_waits.c", flags, [SHARED]), 2]))
+    all_held(run([inside(scratch, compiler, "shared_rests.c", flags)]))
     if compiler == "cc" and shutil.which("c++"):
         shared = compiled(scratch, "cc", C_FLAGS, SHARED, flags)
         run([built(scratch, "c++", CPP_FLAGS, C_SOURCES / "shared_hazards.cpp", flags, [shared])])
@@ -240,6 +241,19 @@ def goes_on_whatever_a_hook_throws(scratch):
     return all_held(run([built(scratch, "c++", CPP_FLAGS, C_SOURCES / "shared_hazards.cpp")]))
 
 
+def inside(scratch, compiler, source, flags=()):
+    """A program that is built with the source of the shared engine, and with exceptions of C++ if there is a compiler for them."""
+    if compiler != "cc" or not shutil.which("c++"):
+        return built(scratch, compiler, C_FLAGS, C_SOURCES / source, flags)
+    tests = compiled(scratch, "cc", C_FLAGS, C_SOURCES / source, [*flags, "-DWITH_CPP"])
+    return built(scratch, "c++", CPP_FLAGS, C_SOURCES / "shared_throws.cpp", [*flags, tests])
+
+
+def wakes_each_call_that_rests(scratch):
+    """Each alone, with a watch that ends what it waits for, is held up, interrupts it, does not return, or forks."""
+    return all_held(run([inside(scratch, "cc", "shared_rests.c")]))
+
+
 def goes_on_where_each_allocation_is_refused(scratch):
     reported = run([built(scratch, "cc", C_FLAGS, C_SOURCES / "shared_refused.c", WRAPS)])
     count = int(reported.split()[2])
@@ -271,6 +285,7 @@ CASES = [
     reports_who_would_wait_for_itself,
     goes_on_whatever_a_thread_does,
     goes_on_whatever_a_hook_throws,
+    wakes_each_call_that_rests,
     threads_get_the_replies_of_the_history,
     threads_run_without_steps,
     threads_run_beside_few_steps,
