@@ -191,6 +191,7 @@ def sanitized(scratch, flags):
     run([built(scratch, compiler, C_FLAGS, C_SOURCES / "shared_hazards.c", [*flags, *WRAPS_LOCK], [SHARED])])
     all_held(run([built(scratch, compiler, C_FLAGS, C_SOURCES / "shared_waits.c", flags, [SHARED]), 2]))
     all_held(run([inside(scratch, compiler, "shared_rests.c", flags)]))
+    all_held(run([inside(scratch, compiler, "shared_leaves.c", flags)]))
     if compiler == "cc" and shutil.which("c++"):
         shared = compiled(scratch, "cc", C_FLAGS, SHARED, flags)
         run([built(scratch, "c++", CPP_FLAGS, C_SOURCES / "shared_hazards.cpp", flags, [shared])])
@@ -254,6 +255,11 @@ def wakes_each_call_that_rests(scratch):
     return all_held(run([inside(scratch, "cc", "shared_rests.c")]))
 
 
+def gives_back_what_a_hook_leaves(scratch):
+    """Hooks that end their thread, jump, throw or fork, in each call that calls one; aborts on the way out and drains, which call none."""
+    return all_held(run([inside(scratch, "cc", "shared_leaves.c")]))
+
+
 def goes_on_where_each_allocation_is_refused(scratch):
     reported = run([built(scratch, "cc", C_FLAGS, C_SOURCES / "shared_refused.c", WRAPS)])
     count = int(reported.split()[2])
@@ -286,6 +292,7 @@ CASES = [
     goes_on_whatever_a_thread_does,
     goes_on_whatever_a_hook_throws,
     wakes_each_call_that_rests,
+    gives_back_what_a_hook_leaves,
     threads_get_the_replies_of_the_history,
     threads_run_without_steps,
     threads_run_beside_few_steps,

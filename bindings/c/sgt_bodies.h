@@ -180,24 +180,6 @@ static uint32_t end_as_reported(sgt_transaction *t, uint32_t reported, struct de
     return status == SGT_OK ? failed : status;
 }
 
-/* What is told of the call of a transaction function: also if a hook does not return when that has been carried out. */
-struct told {
-    const sgt_transaction *transaction;
-    sgt_shared_outcome *outcome;
-    bool returns;
-    uint32_t status;         /* that it returns */
-};
-
-static void tell(void *of)
-{
-    const struct told *it = of;
-    const sgt_transaction *t = it->transaction;
-    it->outcome->tries = t->tries, it->outcome->waits = t->waits;
-    const bool is_carried_out = !t->is_live && t->status == SGT_OK && t->reply.kind != 0;
-    if (it->returns ? it->status != SGT_OK : !is_carried_out) return;
-    it->outcome->ticket = t->ticket, it->outcome->sequence = t->sequence, it->outcome->reply = t->reply;
-}
-
 /* Calls the body for a try, and ends that. */
 static uint32_t run_body(sgt_body body, void *context, sgt_transaction *t, struct deadline *until)
 {
@@ -207,6 +189,41 @@ static uint32_t run_body(sgt_body body, void *context, sgt_transaction *t, struc
     if (!is_given(&it)) return refuse_another(&it);
     if (t->is_live) t->is_live = 1;
     return end_as_reported(t, it.reported, until);
+}
+
+/* The call of a transaction function, with the transaction of its tries. */
+struct transact {
+    sgt_shared *shared;
+    sgt_body body;
+    void *context;
+    uint32_t beside;         /* tries beside others, before the first one that is made alone */
+    struct deadline until;
+    sgt_transaction transaction;
+    sgt_shared_outcome *outcome;
+    bool returns;
+    uint32_t status;         /* that it returns */
+};
+
+static void make_tries(void *of)
+{
+    struct transact *it = of;
+    sgt_transaction *t = &it->transaction;
+    do {
+        it->status = next_try(it->shared, t, it->beside, &it->until);
+        if (it->status == SGT_OK && t->is_live) it->status = run_body(it->body, it->context, t, &it->until);
+    } while (it->status == SGT_UNDONE);
+    it->returns = true;
+}
+
+/* Writes the outcome: also if a hook does not return when the call has been carried out. */
+static void tell(void *of)
+{
+    const struct transact *it = of;
+    const sgt_transaction *t = &it->transaction;
+    it->outcome->tries = t->tries, it->outcome->waits = t->waits;
+    const bool is_carried_out = !t->is_live && t->status == SGT_OK && t->reply.kind != 0;
+    if (it->returns ? it->status != SGT_OK : !is_carried_out) return;
+    it->outcome->ticket = t->ticket, it->outcome->sequence = t->sequence, it->outcome->reply = t->reply;
 }
 
 #endif

@@ -239,18 +239,12 @@ uint32_t sgt_shared_transact(sgt_shared *shared, sgt_body body, void *context, c
     static const sgt_transact_options plain = SGT_TRANSACT_OPTIONS;
     if (!options) options = &plain;
     if (!body || !outcome || outcome->size < sizeof *outcome || options->size < sizeof *options) return SGT_BAD_CALL;
-    struct deadline until = deadline_in(options->wait_ns);
-    sgt_transaction t = SGT_TRANSACTION;
-    struct told told = {.transaction = &t, .outcome = outcome};
-    uint32_t status = SGT_OK;
-    pthread_cleanup_push(tell, &told);
-    do {
-        status = next_try(shared, &t, options->tries, &until);
-        if (status == SGT_OK && t.is_live) status = run_body(body, context, &t, &until);
-    } while (status == SGT_UNDONE);
-    told.returns = true, told.status = status;
-    pthread_cleanup_pop(1);
-    return status;
+    struct transact it = {.shared = shared, .body = body, .context = context, .beside = options->tries, .outcome = outcome};
+    it.until = deadline_in(options->wait_ns);
+    it.transaction = (sgt_transaction)SGT_TRANSACTION;
+    call_guarded(make_tries, tell, &it);
+    tell(&it);
+    return it.status;
 }
 
 /* The rest */

@@ -117,7 +117,7 @@ static void holds_nothing(sgt_shared *s)
 {
     const bool is_free_now = pthread_mutex_trylock(&s->lock.mutex) == 0;
     CHECK(is_free_now);
-    if (!is_free_now) return;
+    if (!is_free_now) exit(1); /* as no call would ever return */
     CHECK(!s->lock.is_held && !s->lock.is_owed && !s->lock.is_claimed && !s->lock.is_hooked);
     CHECK(s->lock.asleep == 0 && s->lock.waiting == 0 && s->lock.closing == 0);
     CHECK(is_quiet(&s->changed) && is_quiet(&s->queued) && s->draining == 0 && s->asked == 0);
