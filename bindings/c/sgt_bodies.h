@@ -34,7 +34,10 @@ static uint32_t has_ended(const sgt_transaction *t)
     return t->status == SGT_UNDONE || (t->reply.kind == SGT_OVER && t->reply.cause == SGT_BY_QUIT) ? SGT_UNDONE : SGT_MISUSE;
 }
 
-/* Notes what came of an access, while the thread has the lock: a hook may be called before the access returns, and may not return. */
+/*
+ * Notes what came of an access, while the thread has the lock: a hook may be called before the access returns, and may
+ * not return.
+ */
 static uint32_t note_access(sgt_transaction *t, uint32_t made, const sgt_reply *reply)
 {
     if (made == SGT_STALE) return end_cut_off(t);
@@ -90,8 +93,8 @@ static uint32_t refuse_in_body(sgt_transaction *t)
 }
 
 /*
- * Commits the last try, or aborts it if an access of it failed, or the commit does. Its end is noted while the thread has the lock: before
- * it rests, too, as it may not come back.
+ * Commits the last try, or aborts it if an access of it failed, or the commit does. Its end is noted while the thread
+ * has the lock: before it rests, too, as it may not come back.
  */
 static uint32_t commit_try(sgt_shared *s, sgt_transaction *t, struct deadline *until)
 {
@@ -160,7 +163,10 @@ static bool is_given(const struct body *it)
     return it->transaction->shared == it->given.shared && is->engine == was->engine && is->part == was->part && is->tid == was->tid;
 }
 
-/* Ends the try of a body that has put another transaction in the place of its own. Both are aborted, as nobody else may have either. */
+/*
+ * Ends the try of a body that has put another transaction in the place of its own. Both are aborted, as nobody else may
+ * have either.
+ */
 static uint32_t refuse_another(struct body *it)
 {
     sgt_transaction *t = it->transaction;

@@ -68,7 +68,10 @@ static uint32_t cut_turn(sgt_shared *s, sgt_ask *ask, struct deadline *until)
     return turn;
 }
 
-/* Makes the cut that the configuration asks for, if it is due, or has starts wait for it: on the way of the call with this deadline, if any. */
+/*
+ * Makes the cut that the configuration asks for, if it is due, or has starts wait for it: on the way of the call with
+ * this deadline, if any.
+ */
 static void cut_if_due(sgt_shared *s, struct deadline *until)
 {
     uint32_t wakes = 0, cut = SGT_OK;
@@ -82,7 +85,10 @@ static void cut_if_due(sgt_shared *s, struct deadline *until)
     s->before_cut = count < s->plan.at ? (s->plan.at - count) / MOST_OF_TURN : 0;
 }
 
-/* Rests while starts wait for a cut that is due, until the deadline or the end of their wait. Whether the deadline has come. */
+/*
+ * Rests while starts wait for a cut that is due, until the deadline or the end of their wait. Whether the deadline has
+ * come.
+ */
 static bool rest_in_pause(sgt_shared *s, struct deadline *until)
 {
     const int64_t own = until->at, pause = s->plan.pause < INT64_MAX ? (int64_t)s->plan.pause : INT64_MAX;

@@ -60,8 +60,9 @@ static void count_fork(void)
 static void watch_forks(void) { pthread_atfork(hold_all, release_all, count_fork); }
 
 /*
- * Whether this process was forked after the engine was opened. A child that was forked in a hook or a watch is still in a call when that has
- * returned: it has no lock, finds the engine in any state, and so ends the call with SGT_MISUSE, without a look at the engine.
+ * Whether this process was forked after the engine was opened. A child that was forked in a hook or a watch is still in
+ * a call when that has returned: it has no lock, finds the engine in any state, and so ends the call with SGT_MISUSE,
+ * without a look at the engine.
  */
 static bool is_in_child(const sgt_shared *s)
 {
@@ -79,8 +80,9 @@ static bool is_in_hook(const sgt_shared *s)
 }
 
 /*
- * Begins a call from inside a hook. False if the engine waits for this thread: it is that of the hook, or a hook of it calls, maybe through
- * hooks of others, an engine in whose hook this thread is. False, too, if the hook is in another call, which asks whether it is interrupted.
+ * Begins a call from inside a hook. False if the engine waits for this thread: it is that of the hook, or a hook of it
+ * calls, maybe through hooks of others, an engine in whose hook this thread is. False, too, if the hook is in another
+ * call, which asks whether it is interrupted.
  */
 static bool begin_call(sgt_shared *s)
 {
@@ -112,7 +114,10 @@ static inline uint32_t leave_quietly(sgt_shared *s, uint32_t status)
     return status;
 }
 
-/* Enters the engine with this number: another one may have its memory, if the thread has been held up before it has the lock. */
+/*
+ * Enters the engine with this number: another one may have its memory, if the thread has been held up before it has the
+ * lock.
+ */
 static inline uint32_t enter_as(sgt_shared *s, uint64_t number)
 {
     if (is_in_child(s) || (hooks && !begin_call(s))) return SGT_MISUSE;

@@ -1,6 +1,6 @@
 /*
- * Calls of functions of the program, which may not return: they throw an exception, end their thread, or, with glibc, leave by longjmp. What
- * a call holds then is given back on the way out. See sgt_shared.c.
+ * Calls of functions of the program, which may not return: they throw an exception, end their thread, or, with glibc,
+ * leave by longjmp. What a call holds then is given back on the way out. See sgt_shared.c.
  *
  *   Function            What the call holds meanwhile                                   Who gives it back
  *   ended, cutting      the lock, is_hooked, hooks, the thread's cancel state, what     end_hook and break_off

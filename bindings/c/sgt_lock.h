@@ -236,8 +236,8 @@ static bool doze(struct lock *l, struct event *event, int64_t until)
 }
 
 /*
- * Wakes all who rest for the event. From now on they sleep for the lock. It is counted in each case: a thread that is asked whether it is
- * interrupted does not rest meanwhile, and sees by the count that it has to look again.
+ * Wakes all who rest for the event. From now on they sleep for the lock. It is counted in each case: a thread that is
+ * asked whether it is interrupted does not rest meanwhile, and sees by the count that it has to look again.
  */
 static void announce(struct lock *l, struct event *event)
 {

@@ -58,8 +58,8 @@ static bool is_interrupted(sgt_shared *s, struct deadline *until)
 /*
  * Releases the lock until the event is announced. Whether the deadline has not come, and the thread is not interrupted.
  *
- * The next question comes at its time however often the event is announced before. A child that was forked in it has no lock afterwards: it
- * touches nothing of the engine, so each caller asks is_in_child first.
+ * The next question comes at its time however often the event is announced before. A child that was forked in it has no
+ * lock afterwards: it touches nothing of the engine, so each caller asks is_in_child first.
  */
 static bool rest(sgt_shared *s, struct event *event, struct deadline *until)
 {

@@ -1,5 +1,6 @@
 /*
- * What a shared engine holds in C, and a call that may rest. See sgt_shared.c, the only user of this file and of those below it.
+ * What a shared engine holds in C, and a call that may rest. See sgt_shared.c, the only user of this file and of those
+ * below it.
  */
 #ifndef SGT_STATE_H
 #define SGT_STATE_H
@@ -15,7 +16,10 @@ enum {
     WATCH = 100000000 /* nanoseconds between two questions to a thread that waits, whether it is interrupted: as often as a person notices */
 };
 
-/* Until when a call may rest, and what it holds meanwhile: it gives that back itself, or give_up does if a hook or a watch does not return. */
+/*
+ * Until when a call may rest, and what it holds meanwhile: it gives that back itself, or give_up does if a hook or a
+ * watch does not return.
+ */
 struct deadline {
     bool never, at_once;
     bool is_over;    /* whether the call ends now, since its thread was interrupted */

@@ -140,7 +140,10 @@ static void wait_alone_no_longer(sgt_shared *s, struct deadline *until)
     if (--s->solo.waiting == 0) wake_all(s);
 }
 
-/* Has the desk count a call no longer, whose thread does not come back. Nothing is committed: no transaction is of the next part. */
+/*
+ * Has the desk count a call no longer, whose thread does not come back. Nothing is committed: no transaction is of the
+ * next part.
+ */
 static void leave_desk(sgt_shared *s, sgt_ask *ask)
 {
     uint32_t wakes = 0;

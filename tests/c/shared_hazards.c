@@ -647,8 +647,8 @@ static uint32_t starts_when_asked(void *context)
 }
 
 /*
- * A thread that is asked keeps its place: no start comes past the cut that it waits for. That start rests beside it, so what ends is announced
- * to somebody: shared_rests.c has each call rest alone.
+ * A thread that is asked keeps its place: no start comes past the cut that it waits for. That start rests beside it, so
+ * what ends is announced to somebody: shared_rests.c has each call rest alone.
  */
 static void a_watched_cut_holds_starts_up(void)
 {

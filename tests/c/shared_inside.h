@@ -1,6 +1,6 @@
 /*
- * What tests of a shared engine need that look inside it: they are built with its source. Checks, an engine, and what it may hold when no
- * call is under way; ways in which a function of the program leaves the call that calls it.
+ * What tests of a shared engine need that look inside it: they are built with its source. Checks, an engine, and what
+ * it may hold when no call is under way; ways in which a function of the program leaves the call that calls it.
  */
 #ifndef SHARED_INSIDE_H
 #define SHARED_INSIDE_H

@@ -1,7 +1,8 @@
 /*
- * Hooks of a shared engine that do not return, in each call that calls one: they end their thread, jump, throw, or fork. What the call holds is
- * given back, what it has carried out stays so, and nothing is lost. Bodies that are left, aborts on the way out, and drains, which call no
- * hook. Each failed check is printed; the last line counts all checks. For tests/threads.py.
+ * Hooks of a shared engine that do not return, in each call that calls one: they end their thread, jump, throw, or
+ * fork. What the call holds is given back, what it has carried out stays so, and nothing is lost. Bodies that are left,
+ * aborts on the way out, and drains, which call no hook. Each failed check is printed; the last line counts all checks.
+ * For tests/threads.py.
  */
 #include "shared_inside.h"
 
@@ -375,7 +376,10 @@ static void a_body_that_is_left_calls_no_hook(void)
 
 static const struct scene before_drain = {"a drain", false, false, 0, runs, 0};
 
-/* A hook does not return when a run is told, and leaves the call and the cut that is due. A drain takes the call, and makes no cut. */
+/*
+ * A hook does not return when a run is told, and leaves the call and the cut that is due. A drain takes the call, and
+ * makes no cut.
+ */
 static void a_drain_calls_no_hook(void)
 {
     sgt_ended stored = {0};
@@ -487,7 +491,9 @@ static void *begins_two(void *of)
     return 0;
 }
 
-/* The engine of the hook waits for one call at a time, as that is what other threads look at before they wait for it. */
+/*
+ * The engine of the hook waits for one call at a time, as that is what other threads look at before they wait for it.
+ */
 static void a_watch_in_a_hook_makes_no_call(void)
 {
     sgt_shared_config config = SGT_SHARED_CONFIG;

@@ -1,10 +1,10 @@
 /*
- * Calls of a shared engine that rest, alone, and are asked meanwhile whether they are interrupted: by a watch that itself ends what the call
- * waits for, that is held up while another thread ends it, that says so, that does not return, or that forks. Each failed check is printed;
- * the last line counts all checks. For tests/threads.py.
+ * Calls of a shared engine that rest, alone, and are asked meanwhile whether they are interrupted: by a watch that
+ * itself ends what the call waits for, that is held up while another thread ends it, that says so, that does not
+ * return, or that forks. Each failed check is printed; the last line counts all checks. For tests/threads.py.
  *
- * No check depends on how soon a thread goes on. A call that is not woken ends at its deadline, and may do its work even then: but until then
- * it is asked ten times a second.
+ * No check depends on how soon a thread goes on. A call that is not woken ends at its deadline, and may do its work
+ * even then: but until then it is asked ten times a second.
  */
 #include "shared_inside.h"
 
