@@ -40,7 +40,7 @@ enum { TABLE = 7, FIRST = 1, SECOND_RECORD = 2, WRITE = 5, READ = 6 };
 static const char opening[] = "{\"limits\":[2,100000,1],\"accounts\":[],\"procedures\":"
                               "[[0,[[\"put\",7,1,5]]],[0,[[\"look\",0,7,1,6]]]]}";
 
-static sgt_shared *opens(const sgt_shared_config *config)
+static inline sgt_shared *opens(const sgt_shared_config *config)
 {
     const sgt_row rows[] = {{TABLE, 0, FIRST, 10}, {TABLE, 0, SECOND_RECORD, 20}};
     sgt_shared *s = 0;
@@ -49,7 +49,7 @@ static sgt_shared *opens(const sgt_shared_config *config)
     return s;
 }
 
-static sgt_ticket begins(sgt_shared *s)
+static inline sgt_ticket begins(sgt_shared *s)
 {
     sgt_ticket ticket = {0};
     sgt_reply reply = {0};
@@ -57,34 +57,34 @@ static sgt_ticket begins(sgt_shared *s)
     return ticket;
 }
 
-static uint32_t reads(sgt_shared *s, const sgt_ticket *ticket, int64_t number)
+static inline uint32_t reads(sgt_shared *s, const sgt_ticket *ticket, int64_t number)
 {
     sgt_reply reply = {0};
     CHECK(sgt_shared_read(s, ticket, TABLE, number, &reply) == SGT_OK);
     return reply.kind;
 }
 
-static uint32_t writes(sgt_shared *s, const sgt_ticket *ticket, int64_t number)
+static inline uint32_t writes(sgt_shared *s, const sgt_ticket *ticket, int64_t number)
 {
     sgt_reply reply = {0};
     CHECK(sgt_shared_write(s, ticket, TABLE, number, 7, &reply) == SGT_OK);
     return reply.kind;
 }
 
-static void quits(sgt_shared *s, const sgt_ticket *ticket)
+static inline void quits(sgt_shared *s, const sgt_ticket *ticket)
 {
     sgt_reply reply = {0};
     CHECK(sgt_shared_quit(s, ticket, &reply) == SGT_OK && reply.kind == SGT_ABORTED);
 }
 
-static void commits(sgt_shared *s, const sgt_ticket *ticket)
+static inline void commits(sgt_shared *s, const sgt_ticket *ticket)
 {
     sgt_reply reply = {0};
     CHECK(sgt_shared_commit(s, ticket, LONG, &reply) == SGT_OK && reply.kind == SGT_COMMITTED);
 }
 
 /* Aborts what is live. How many these are. */
-static uint64_t quits_all(sgt_shared *s)
+static inline uint64_t quits_all(sgt_shared *s)
 {
     sgt_live live[MOST_LIVE];
     uint64_t count = 0;
@@ -93,7 +93,7 @@ static uint64_t quits_all(sgt_shared *s)
     return count;
 }
 
-static uint64_t lives(sgt_shared *s)
+static inline uint64_t lives(sgt_shared *s)
 {
     uint64_t count = 77;
     CHECK(sgt_shared_live(s, 0, 0, &count) == SGT_OK);
@@ -102,10 +102,10 @@ static uint64_t lives(sgt_shared *s)
 
 /* What is held */
 
-static bool is_quiet(const struct event *event) { return event->resting == 0 && event->waking == 0; }
+static inline bool is_quiet(const struct event *event) { return event->resting == 0 && event->waking == 0; }
 
 /* This thread is in no hook and in no question, and can be cancelled. */
-static void thread_holds_nothing(void)
+static inline void thread_holds_nothing(void)
 {
     int cancels = PTHREAD_CANCEL_DISABLE;
     pthread_setcancelstate(PTHREAD_CANCEL_ENABLE, &cancels);
@@ -113,7 +113,7 @@ static void thread_holds_nothing(void)
 }
 
 /* No call is under way, and nothing of one is left. */
-static void holds_nothing(sgt_shared *s)
+static inline void holds_nothing(sgt_shared *s)
 {
     const bool is_free_now = pthread_mutex_trylock(&s->lock.mutex) == 0;
     CHECK(is_free_now);
@@ -129,7 +129,7 @@ static void holds_nothing(sgt_shared *s)
 }
 
 /* The engine serves as if nothing had happened, and is closed. */
-static void serves_and_closes(sgt_shared *s)
+static inline void serves_and_closes(sgt_shared *s)
 {
     sgt_shared_outcome outcome = SGT_SHARED_OUTCOME;
     sgt_run_options options = SGT_RUN_OPTIONS;
@@ -162,7 +162,7 @@ int catches_one(void (*call)(void *of), void *of);
 #endif
 
 /* Whether this program, with this C library, can leave so. */
-static bool can_leave(enum way way)
+static inline bool can_leave(enum way way)
 {
 #ifndef WITH_CPP
     if (way == THROWS) return false;
@@ -175,7 +175,7 @@ static bool can_leave(enum way way)
 
 static _Thread_local jmp_buf place;
 
-static void leave_by(enum way way)
+static inline void leave_by(enum way way)
 {
     if (way == EXITS) pthread_exit(&failed);
     if (way == JUMPS) longjmp(place, 1);
@@ -192,14 +192,14 @@ struct leaving {
     bool returned;
 };
 
-static void makes_call(void *of)
+static inline void makes_call(void *of)
 {
     struct leaving *it = of;
     it->call(it->of);
     it->returned = true;
 }
 
-static void *leaves(void *of)
+static inline void *leaves(void *of)
 {
     struct leaving *it = of;
     if (it->way == EXITS) makes_call(it);
@@ -212,7 +212,7 @@ static void *leaves(void *of)
 }
 
 /* Makes the call on another thread, and checks that it is left so. */
-static void is_left(void (*call)(void *of), void *of, enum way way)
+static inline void is_left(void (*call)(void *of), void *of, enum way way)
 {
     struct leaving it = {.call = call, .of = of, .way = way};
     pthread_t thread;
@@ -230,7 +230,7 @@ static void is_left(void (*call)(void *of), void *of, enum way way)
 static _Thread_local bool is_child;
 
 /* Forks in a hook or a watch. The child goes on, and its parent when that has ended well. */
-static void forks_once(void)
+static inline void forks_once(void)
 {
     int status = -1;
     fflush(stdout);
@@ -244,7 +244,7 @@ static void forks_once(void)
 }
 
 /* Ends the child: well if its call has ended so, and it is in no hook and in no question. */
-static void ends_child(uint32_t status)
+static inline void ends_child(uint32_t status)
 {
     if (is_child) _exit(status == SGT_MISUSE && failed == 0 && !hooks && !watch.is_asking ? 0 : 1);
 }

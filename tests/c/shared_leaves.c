@@ -232,6 +232,7 @@ static void is_left_by_its_hook(const struct scene *scene)
         CHECK(it.reports == 1 && part_of(it.shared) == 0);
         holds_nothing(it.shared);
         scene->is_done(&it);
+        CHECK(it.reports == 1);
         serves_and_closes(it.shared);
     }
 }

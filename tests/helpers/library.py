@@ -15,6 +15,7 @@ CPP_FLAGS = ["-std=c++17", "-Wall", "-Wextra", "-Werror", "-O2", *INCLUDES, f"-I
 SANITIZERS = ["-g", "-fsanitize=address,undefined", "-fno-sanitize-recover=all"]
 THREAD_SANITIZER = ["-g", "-fsanitize=thread"]
 WRAPS = ["-Wl,--wrap=malloc,--wrap=realloc,--wrap=calloc,--wrap=aligned_alloc"]
+WRAPS_CLOCK = ["-Wl,--wrap=clock_gettime"]
 WRAPS_LOCK = ["-Wl,--wrap=pthread_mutex_trylock"]
 
 # What a sanitizer says if the addresses that the system has drawn for a program are some that the sanitizer needs itself. The program has not
