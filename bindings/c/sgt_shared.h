@@ -318,7 +318,10 @@ uint32_t sgt_shared_try(sgt_shared *shared, sgt_transaction *transaction, const 
  */
 uint32_t sgt_transaction_commit(sgt_transaction *transaction, int64_t wait_ns);
 
-/* Aborts it. SGT_UNDONE if it had been aborted by a conflict before; SGT_BAD_CALL if it was not started. */
+/*
+ * Aborts it. It calls no hook: a cut that is due is left to a later call. SGT_UNDONE if it had been aborted by a conflict before;
+ * SGT_BAD_CALL if it was not started.
+ */
 uint32_t sgt_transaction_quit(sgt_transaction *transaction);
 
 /*
