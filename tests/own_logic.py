@@ -15,6 +15,7 @@ import os
 import pathlib
 import pickle
 import random
+import re
 import shutil
 import signal
 import sys
@@ -35,6 +36,7 @@ from helpers.library import (  # noqa: E402
     built,
     can,
     compiled,
+    refused,
     run,
 )
 from helpers.package import LONG, Interrupted, elsewhere, interrupted, interrupts, module, refusal, what  # noqa: E402
@@ -99,16 +101,47 @@ def commits_quits_and_throws_in_cpp(scratch):
     return None
 
 
-def rust_program(scratch, source):
-    """Builds a program in Rust with the crates of the library."""
+def refuses_bodies_that_replace_their_transaction_in_cpp(_):
+    """The compiler refuses each, and says why; it accepts the program without them."""
+    if not shutil.which("c++"):
+        return "left out: no c++ here"
+    source = C_SOURCES / "bodies_refused.cpp"
+    run(["c++", *CPP_FLAGS, "-fsyntax-only", source])
+    bodies = re.findall(r"^#elif BODY == (\d+) // (.+)$", source.read_text(), re.M)
+    for body, wanted in bodies:
+        came = refused(["c++", *CPP_FLAGS, "-fsyntax-only", f"-DBODY={body}", source])
+        same(f"why body {body} is refused", wanted, wanted if wanted in came else came)
+    return f"{len(bodies)} bodies"
+
+
+def refuses_bodies_that_replace_their_transaction_in_rust(scratch):
+    if not shutil.which("rustc"):
+        return "left out: no rustc here"
+    source, words = C_SOURCES / "bodies_refused.rs", rust_words(scratch)
+    words += ["--crate-type", "lib", "--emit", "metadata", "--out-dir", scratch, "-A", "unexpected_cfgs"]
+    run([*words, "--cfg", 'body="none"', source])
+    bodies = re.findall(r'^ +#\[cfg\(body = "(.+)"\)\] // (.+)$', source.read_text(), re.M)
+    for body, wanted in bodies:
+        came = refused([*words, "--cfg", f'body="{body}"', source])
+        same(f"why a body that {body} is refused", wanted, wanted if f"error[{wanted}]" in came or f"error: {wanted}" in came else came)
+    return f"{len(bodies)} bodies"
+
+
+def rust_words(scratch):
+    """Builds the crates of the library, and returns the words by which programs are built with them."""
     rust, find = BINDINGS / "rust", ["-L", f"native={OUT}", "-L", scratch]
     words = ["rustc", "--edition", "2021", "-O", "-D", "warnings"]
     if not (scratch / "libsgt.rlib").exists():
         lib = [*words, "--crate-type", "lib", "--out-dir", scratch]
         run([*lib, "--crate-name", "sgt_sys", *find, "-l", "static=sgt", rust / "sgt-sys" / "src" / "lib.rs"])
         run([*lib, "--crate-name", "sgt", *find, "--extern", "sgt_sys", rust / "src" / "lib.rs"])
+    return [*words, *find, "--extern", "sgt"]
+
+
+def rust_program(scratch, source):
+    """Builds a program in Rust with the crates of the library."""
     program = scratch / f"{source.stem}_rust"
-    run([*words, *find, "--extern", "sgt", "-o", program, source])
+    run([*rust_words(scratch), "-o", program, source])
     return program
 
 
@@ -839,6 +872,8 @@ CASES = [
     threads_stay_within_their_memory,
     commits_quits_and_throws_in_cpp,
     commits_quits_and_panics_in_rust,
+    refuses_bodies_that_replace_their_transaction_in_cpp,
+    refuses_bodies_that_replace_their_transaction_in_rust,
     reads_writes_and_removes_in_python,
     answers_single_calls_in_python,
     says_why_in_python,

@@ -56,6 +56,15 @@ def compiled(scratch, compiler, flags, source, extra=()):
     return made
 
 
+def refused(words):
+    """What a compiler writes of a program that it refuses."""
+    words = [str(word) for word in words]
+    ran = subprocess.run(words, capture_output=True, timeout=SECONDS, check=False)
+    if ran.returncode == 0:
+        raise Differs(f"not refused: {words}")
+    return ran.stderr.decode()
+
+
 def can(scratch, compiler, flags, text="int main(void) { return 0; }", words=()):
     """Whether programs with these flags can be built and run here: the program of this text, with these words."""
     source = scratch / "nothing.c"
