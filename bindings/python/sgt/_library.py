@@ -31,7 +31,7 @@ from ._errors import (
 )
 
 # The version of the headers that this package is for.
-VERSION = "0.3.1"
+VERSION = "0.4.0"
 
 # The least and the greatest value, argument and record number.
 LEAST, MOST = -999_999_999_999_999, 999_999_999_999_999
