@@ -453,8 +453,9 @@ private:
 // How long a call may wait. std::nullopt: without a limit.
 using Wait = std::optional<std::chrono::nanoseconds>;
 
-// The configuration of a shared engine: see sgt_shared_config. What a hook throws is thrown by the call in which it was called; that call
-// has been carried out. If `cutting` throws there is no cut.
+// The configuration of a shared engine: see sgt_shared_config. What a hook throws is thrown by the call in which it was called. That call
+// has been carried out, with one exception: if `cutting` throws there is no cut, and a call that had to wait for this cut before its start has
+// started nothing. A destructor, OwnTransaction::quit and a drain call no hook: a cut that is due is left to a later call.
 struct Configuration {
     std::function<void(const sgt_ended &)> ended;
     std::function<void(sgt_engine *, std::uint64_t part)> cutting;
@@ -565,8 +566,8 @@ private:
     std::exception_ptr of_hook; // what a hook threw last in an access
 };
 
-// A transaction of `SharedEngine::begin`, which you commit. Its destructor aborts it, unless it has ended before. It must not outlive the
-// engine.
+// A transaction of `SharedEngine::begin`, which you commit. Its destructor aborts it, unless it has ended before, and throws nothing. It
+// must not outlive the engine.
 class [[nodiscard]] BegunTransaction : public OwnTransaction {
 public:
     BegunTransaction(BegunTransaction &&other) noexcept : OwnTransaction(other.shared) { take(other); }
@@ -618,8 +619,8 @@ constexpr bool is_lazy = Has<OfCoroutine, Result>::value || Has<OfAwaitable, Res
 
 } // namespace detail
 
-// A transaction of a shared engine. Its destructor aborts it, unless it has ended before. It must not outlive the engine. After its end the
-// reply to each call is SGT_OVER, or the call throws Stale.
+// A transaction of a procedure in a shared engine. Its destructor aborts it, unless it has ended before, and throws nothing. It must not
+// outlive the engine. After its end the reply to each call is SGT_OVER, or the call throws Stale.
 class [[nodiscard]] Transaction {
 public:
     Transaction(Transaction &&other) noexcept
@@ -753,6 +754,8 @@ public:
     // is a std::exception and a conflict had come first; it may rest on a value that is undone. To refuse truthfully, return the refusal
     // without a write: once that is committed, it is true. What it returns must not be a std::future, nor be awaited.
     //
+    // What a hook throws is rethrown in each case, unless the body catches it. Nothing is committed then, unless it threw in the commit.
+    //
     // After `tries` conflicts the next try is made alone: others wait until it has ended, and it has no conflicts.
     //
     // Throws TimedOut if the deadline comes first, which does not interrupt the body; Aborted if another caller aborted the transaction;
@@ -850,7 +853,7 @@ public:
     }
 
     // Takes at most `most` of the stored calls. Returns an empty list if none comes in time. Throws std::logic_error if the engine stores
-    // none.
+    // none. It calls no hook, so that nothing that was taken is lost.
     [[nodiscard]] std::vector<sgt_ended> drain(std::size_t most, Wait wait = std::nullopt)
     {
         if (hooks && !hooks->keeps_ended) throw std::logic_error("sgt: the engine stores no calls: set keeps_ended in its configuration");

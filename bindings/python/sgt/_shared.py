@@ -78,7 +78,8 @@ class Outcome(NamedTuple):
 class SharedEngine(Uncopied):
     """An engine for many threads: any thread may call it at any time. Each call releases the interpreter's lock.
 
-    It is closed at the end of a `with` block, by `close`, or when it is collected. Timeouts are seconds; None waits without a limit.
+    It is closed at the end of a `with` block, by `close`, or when it is collected. Timeouts are seconds; None and infinity wait without a
+    limit, and what is negative or not a number is a BadCall.
     """
 
     def __init__(
@@ -102,8 +103,9 @@ class SharedEngine(Uncopied):
 
         `cutting` is called before each cut with the engine and the number of the part that is cut off, to read its history and database. It is
         called by the call that cuts, on its thread, and nothing else happens meanwhile; it may not call the shared engine. If it raises,
-        there is no cut, and that is raised by this call, which has been carried out, unless it was `cut`. If memory is short the cut fails,
-        and the hook is called again for the same part later. Calls may be cut off before `ended` is called for them.
+        there is no cut, and that is raised by this call, unless an interrupt is. The call has been carried out, but for `cut`, and for the
+        start of a transaction, of which nothing is left live. An abort at the end of a body or a block does not call it. If memory is short
+        the cut fails, and the hook is called again for the same part later. Calls may be cut off before `ended` is called for them.
 
         With `keeps_ended` such calls are stored until `drain` takes them. Once the history has `cut_after` entries and no transaction
         is live, it is cut off; new transactions wait at most `cut_wait` seconds for that. NEVER: it never is. 0: never with a hook
@@ -224,6 +226,8 @@ class SharedEngine(Uncopied):
 
         The body must not commit the transaction itself: Misuse. A body that is async or a generator, or returns what is awaited or a
         future, is a TypeError.
+
+        What a hook raises is raised in each case, unless the body catches it. Nothing is committed then, unless it was raised in the commit.
 
         After `tries` conflicts the next try is made alone: others wait until it has ended, and it has no conflicts.
 

@@ -58,8 +58,9 @@ impl SharedEngine {
     /// The body is run again after a conflict, so it must have no effects but these. What it reads may be uncommitted, and be undone
     /// afterwards: act on it after the commit, when this call has returned `Ok`. An error of the body aborts the transaction and is
     /// returned, unless a conflict had come first; it may rest on a value that is undone. To refuse truthfully, return the refusal as `Ok`
-    /// without a write: once that is committed, it is true. If the body panics, or a hook does in an access of it, the transaction is
-    /// aborted. It may have been committed if a hook panics in its commit.
+    /// without a write: once that is committed, it is true. If the body panics, the transaction is aborted.
+    ///
+    /// If a hook panics, so does the body or this call. Nothing is committed then, unless the hook panicked in the commit.
     ///
     /// After 8 conflicts the next try is made alone: others wait until it has ended, and it has no conflicts.
     ///
