@@ -375,7 +375,8 @@ class SharedEngine(Uncopied):
         """Calls the hook `ended` for the last calls, closes the engine, and returns the status."""
         if self._teller:
             self._teller.report()
-        return FREE.sgt_shared_close(self._shared)
+        status: int = FREE.sgt_shared_close(self._shared)
+        return status
 
     def __enter__(self) -> SharedEngine:
         return self
