@@ -341,6 +341,8 @@ def reports_the_story_by_cargo(scratch):
     os.utime(folder / "libsgt.a", (time.time() + 5, time.time() + 5))  # a library that has changed is linked anew
     reported = run(["cargo", "build", "--offline", "--verbose", "--example", "bank"], env=env, cwd=BINDINGS / "rust", also_errors=True)
     same("that a changed library is seen", True, "Dirty sgt-sys" in reported)
+    reported = run(["cargo", "test", "--offline", "--doc"], env=env, cwd=BINDINGS / "rust")
+    same("that a body which replaces its transaction is refused", True, re.search(r"OwnTransaction .* compile fail \.\.\. ok", reported) is not None)
     return None
 
 
@@ -389,13 +391,30 @@ def runs_the_programs_of_its_page(scratch):
     same("what the programs tell", ["80000\n", "paid 30\n", "1500\n", "80000\n", "paid 30\n", "COMMITTED 1500\n"], reported)
     if not shutil.which("rustc") or not (scratch / "libsgt.rlib").exists():
         return "but for those in Rust: no rustc here"
-    program = scratch / "page_rust"
-    words = ["rustc", "--edition", "2021", "-D", "warnings", "-L", f"native={OUT}", "-L", scratch, "--extern", "sgt", "-o", program]
-    for text in programs_of("rust", "fn main()"):
-        (scratch / "page.rs").write_text(text)
-        run([*words, scratch / "page.rs"])
-        same("what the program in Rust tells", "80000\n", run([program]))
+    texts = programs_of("rust", "fn main()") + [PARTS_IN_RUST % text for text in programs_of("rust", "let ") if "fn main()" not in text]
+    same("what the programs in Rust tell", ["80000\n", "true Ok(Some(30))\n", "committed 1100\ntrue Ok(None)\n"], [told_in_rust(scratch, text) for text in texts])
     return None
+
+
+# A program of a part of the page, which may use `bank`, and may set `paid`.
+PARTS_IN_RUST = """fn main() -> Result<(), sgt::Error> {
+    let rows = [sgt::Row { table: 7, number: 1, value: 100 }];
+    let opening = r#"{"limits":[8,1000000,1],"accounts":[],"procedures":[]}"#;
+    let (bank, paid) = (sgt::SharedEngine::open_with(opening, &rows, sgt::Configuration::default())?, true);
+%s
+    println!("{paid} {:?}", bank.get(7, 2));
+    Ok(())
+}
+"""
+
+
+def told_in_rust(scratch, text):
+    """What a program in Rust writes."""
+    source, program = scratch / "page.rs", scratch / "page_rust"
+    source.write_text(text)
+    lint = ["-D", "warnings", "-A", "unused_variables"]
+    run(["rustc", "--edition", "2021", *lint, "-L", f"native={OUT}", "-L", scratch, "--extern", "sgt", "-o", program, source])
+    return run([program])
 
 
 def gives_each_reply_and_fault_its_text(_):

@@ -36,6 +36,7 @@ if TYPE_CHECKING:
 
 _Result = TypeVar("_Result")
 
+_PLAIN = frozenset((type(None), bool, int, str, tuple, list, dict))  # what most bodies return
 _LAZY = (types.GeneratorType, types.AsyncGeneratorType)  # beside what can be awaited
 
 
@@ -53,8 +54,11 @@ def _left(deadline: Optional[int]) -> int:
 def _is_lazy(result: object) -> bool:
     """Whether what a body returned may have still to be run, so that it would use a transaction that has ended: if it is a generator, can
     be awaited, or is a future of another thread. (Whoever has such a future has imported its module.)"""
+    kind = type(result)
+    if kind in _PLAIN:
+        return False
     future = getattr(sys.modules.get("concurrent.futures"), "Future", ())
-    return hasattr(type(result), "__await__") or isinstance(result, _LAZY) or isinstance(result, future)
+    return hasattr(kind, "__await__") or isinstance(result, _LAZY) or isinstance(result, future)
 
 
 def _not_run(result: object) -> TypeError:
