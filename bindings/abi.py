@@ -1,11 +1,12 @@
 #!/usr/bin/env python3
-"""Writes what a program that was built with the headers relies on: where the fields of each struct are, numbers, and calls.
+"""Writes what a program that was built with the headers relies on: where fields of structs are, numbers, and calls.
 
     bindings/abi.py > bindings/abi.txt
 
-`abi.txt` is that of this version's major and minor number, which are in its first line and in the name of the shared library. A library
-of a higher patch number serves the programs of a lower one. So if the minor number is the same, calls and numbers may be added, and
-nothing else may change. `tests/bindings.py` compares. It takes a C compiler: CC, or cc.
+`abi.txt` is that of this version's major and minor number, which are in its first line and in the name of the shared
+library. A library of a higher patch number serves the programs of a lower one. So if the minor number is the same,
+calls and numbers may be added, and nothing else may change. `tests/bindings.py` compares. It takes a C compiler: CC, or
+cc.
 """
 from __future__ import annotations
 
@@ -70,13 +71,14 @@ def printed(text: str) -> str:
     """What a C program prints of structs and numbers."""
     lines = []
     for name, fields in structs_in(text).items():
-        lines += [f'    printf("struct {name} %zu:", sizeof({name}));', *(f"    FIELD({name}, {field});" for field in fields), '    puts("");']
+        lines.append(f'    printf("struct {name} %zu:", sizeof({name}));')
+        lines += [*(f"    FIELD({name}, {field});" for field in fields), '    puts("");']
     lines += [f'    printf("number {name} %lld\\n", (long long){name});' for name in numbers_in(text)]
     with tempfile.TemporaryDirectory() as folder:
         source, program = pathlib.Path(folder) / "abi.c", pathlib.Path(folder) / "abi"
         source.write_text(PROGRAM % "".join(f"{line}\n" for line in lines))
-        words = [os.environ.get("CC", "cc"), "-std=c11", f"-I{HERE}", f"-I{HERE / 'c'}", "-o", str(program), str(source)]
-        subprocess.run(words, check=True)
+        compiler = [os.environ.get("CC", "cc"), "-std=c11", f"-I{HERE}", f"-I{HERE / 'c'}"]
+        subprocess.run([*compiler, "-o", str(program), str(source)], check=True)
         return subprocess.run([str(program)], check=True, capture_output=True, text=True).stdout.replace(",\n", "\n")
 
 

@@ -61,19 +61,24 @@ def declared():
 
 
 def has_the_structs_and_calls_of_its_version(_):
-    """What programs were built with is as `abi.txt` has it: where that changes, the minor number has to count up, and the soname with it."""
-    stored, made = (BINDINGS / "abi.txt").read_text().splitlines(), run([sys.executable, BINDINGS / "abi.py"]).splitlines()
+    """What programs were built with is as `abi.txt` has it. Where that changes, the minor number counts up, and so the
+    soname."""
+    stored = (BINDINGS / "abi.txt").read_text().splitlines()
+    made = run([sys.executable, BINDINGS / "abi.py"]).splitlines()
     same("the version of bindings/abi.txt, which bindings/abi.py writes", f"version {minor_version()}", stored[0])
-    same("what has changed, so that the minor number has to count up", [], [line for line in stored if line not in made])
+    same("what has changed, so that the minor number counts up", [], [line for line in stored if line not in made])
     same("what bindings/abi.txt lacks", [], [line for line in made if line not in stored])
-    same("the calls in it", declared(), {re.search(r"sgt_\w+(?=\()", line)[0] for line in stored if line.startswith("call ") and "typedef" not in line})
+    calls = [line for line in stored if line.startswith("call ") and "typedef" not in line]
+    same("the calls in it", declared(), {re.search(r"sgt_\w+(?=\()", line)[0] for line in calls})
     return f"{len(stored)} lines"
 
 
 def structs_of_c():
     """The structs of the headers: of each the size, and the names, places and sizes of its fields."""
-    lines = re.findall(r"^struct sgt_(\w+) (\d+): (.*)$", (BINDINGS / "abi.txt").read_text(), re.M)
-    return {name: (int(size), [(it[0], *map(int, it[1:])) for it in map(str.split, fields.split(", "))]) for name, size, fields in lines}
+    structs = {}
+    for name, size, fields in re.findall(r"^struct sgt_(\w+) (\d+): (.*)$", (BINDINGS / "abi.txt").read_text(), re.M):
+        structs[name] = int(size), [(it[0], *map(int, it[1:])) for it in map(str.split, fields.split(", "))]
+    return structs
 
 
 def has_the_structs_of_c_in_python(_):
@@ -84,7 +89,8 @@ def has_the_structs_of_c_in_python(_):
     for name, (size, fields) in structs.items():
         it = getattr(_library, "C" + "".join(map(str.title, name.split("_"))))
         same(f"the size of {name}", size, ctypes.sizeof(it))
-        same(f"the fields of {name}", fields, [(field, getattr(it, field).offset, getattr(it, field).size) for field, _ in it._fields_])
+        places = [(field, getattr(it, field).offset, getattr(it, field).size) for field, _ in it._fields_]
+        same(f"the fields of {name}", fields, places)
     return f"{len(structs)} structs"
 
 
@@ -106,14 +112,16 @@ def has_the_structs_of_c_in_rust(scratch):
     structs, lines, wanted = structs_of_c(), [], []
     for name, (size, fields) in structs.items():
         kind = "sgt_sys::" + "".join(map(str.title, name.split("_")))
-        lines += [f'    let it = std::mem::MaybeUninit::<{kind}>::zeroed();\n    print!("{name} {{}}:", std::mem::size_of::<{kind}>());']
+        lines += [f"    let it = std::mem::MaybeUninit::<{kind}>::zeroed();"]
+        lines += [f'    print!("{name} {{}}:", std::mem::size_of::<{kind}>());']
         lines += [*(f"    field!(it, {field[0]});" for field in fields), "    println!();"]
         wanted.append(f"{name} {size}:" + "".join(f" {field} {place} {its}," for field, place, its in fields))
-    source, library = scratch / "places.rs", BINDINGS / "rust" / "sgt-sys" / "src" / "lib.rs"
+    source, places = scratch / "places.rs", scratch / "places"
     source.write_text(RUST_PLACES + "\n".join(lines) + "\n}\n")
-    run(["rustc", "--edition", "2021", "--crate-type", "lib", "--crate-name", "sgt_sys", "--out-dir", scratch / "places", library])
-    run(["rustc", "--edition", "2021", "-L", scratch / "places", "--extern", "sgt_sys", "-o", scratch / "places_rust", source])
-    same("the structs", wanted, run([scratch / "places_rust"]).splitlines())
+    words = ["rustc", "--edition", "2021", "--out-dir", places, "-L", places]
+    run([*words, "--crate-type", "lib", "--crate-name", "sgt_sys", BINDINGS / "rust" / "sgt-sys" / "src" / "lib.rs"])
+    run([*words, "--extern", "sgt_sys", source])
+    same("the structs", wanted, run([places / "places"]).splitlines())
     return f"{len(structs)} structs"
 
 
@@ -123,7 +131,8 @@ def runs_installed(scratch, folder, lib, flags):
     run(["cc", "-std=c11", "-o", program, BINDINGS / "c" / "threads.c", *flags])
     same("the money", MONEY, run([program], env={"LD_LIBRARY_PATH": str(folder / lib)}))
     name = f"libsgt.so.{minor_version()}"
-    same("the library that it finds", True, f"[{name}]" in run(["readelf", "-d", program]) and not (folder / lib / name).is_symlink())
+    same("the library that it finds", True, f"[{name}]" in run(["readelf", "-d", program]))
+    same("that this is a file", False, (folder / lib / name).is_symlink())
 
 
 def installs(scratch):
@@ -157,15 +166,16 @@ def runs_the_commands_of_its_page(scratch):
     places = {"/usr/local": scratch / "page", "dist": scratch / "dist"}
     for words in commands[1:]:
         run([places.get(word, word) for word in words], cwd=TOP)
-    same("what they made", True, (scratch / "page" / "lib" / "libsgt.so").exists() and any((scratch / "dist").glob("*.whl")))
+    same("what an install made", True, (scratch / "page" / "lib" / "libsgt.so").exists())
+    same("what else was made", 1, len(list((scratch / "dist").glob("*.whl"))))
     for begin, source in (("cc -I", "c/bank.c"), ("c++ -std=c++17", "cpp/bank.cpp")):
         words = span_of_its_page(begin).replace(f" {pathlib.Path(source).name} ", f" bindings/{source} ").split()
         if shutil.which(words[0]):
             run([*words, "-o", scratch / "page_bank"], cwd=TOP)
             same(f"the story of {source}", STORY, run([scratch / "page_bank"]))
     name, _, path = span_of_its_page("PYTHONPATH=").partition("=")
-    reported = run([sys.executable, "-B", "-c", "import sgt; print(sgt.version())"], env={**os.environ, name: path}, cwd=TOP)
-    same("what the package says", f"{declared_version()}\n", reported)
+    words = [sys.executable, "-B", "-c", "import sgt; print(sgt.version())"]
+    same("what the package says", f"{declared_version()}\n", run(words, env={**os.environ, name: path}, cwd=TOP))
 
 
 def builds_by_the_line_of_its_page_for_cargo(scratch):
@@ -174,7 +184,8 @@ def builds_by_the_line_of_its_page_for_cargo(scratch):
         return "left out: no cargo here"
     (scratch / "crate" / "src").mkdir(parents=True)
     line = span_of_its_page("sgt = {").replace("...", str(TOP))
-    (scratch / "crate" / "Cargo.toml").write_text(f'[package]\nname = "bank"\nversion = "0.1.0"\nedition = "2021"\n\n[dependencies]\n{line}\n')
+    head = '[package]\nname = "bank"\nversion = "0.1.0"\nedition = "2021"\n\n[dependencies]\n'
+    (scratch / "crate" / "Cargo.toml").write_text(f"{head}{line}\n")
     shutil.copy(BINDINGS / "rust" / "examples" / "bank.rs", scratch / "crate" / "src" / "main.rs")
     env = dict(os.environ, CARGO_TARGET_DIR=str(scratch / "target"), SGT_LIB_DIR=str(scratch / "page" / "lib"))
     same("the story", STORY, run(["cargo", "run", "--offline", "--quiet"], env=env, cwd=scratch / "crate"))
@@ -199,9 +210,9 @@ def is_found_by_cmake(scratch):
     find, link = span_of_its_page("find_package("), span_of_its_page("target_link_libraries(")
     for kind in ("sgt", "static"):
         same("the target", True, "sgt::sgt" in link)
-        program = f"set(CMAKE_C_STANDARD 11)\n{find}\nfind_package(Threads REQUIRED)\nadd_executable(bank {BINDINGS / 'c' / 'threads.c'})\n"
-        lines = f"{program}{link.replace('sgt::sgt', f'sgt::{kind}')}\ntarget_link_libraries(bank Threads::Threads)\n"
-        run(configures(scratch, kind, "C", lines))
+        program = f"set(CMAKE_C_STANDARD 11)\nadd_executable(bank {BINDINGS / 'c' / 'threads.c'})\n"
+        threads = "find_package(Threads REQUIRED)\ntarget_link_libraries(bank Threads::Threads)\n"
+        run(configures(scratch, kind, "C", f"{find}\n{program}{threads}{link.replace('sgt::sgt', f'sgt::{kind}')}\n"))
         run(["cmake", "--build", scratch / kind / "build"])
         same("the money", MONEY, run([scratch / kind / "build" / "bank"]))
     major, minor, patch = map(int, declared_version().split("."))
@@ -216,9 +227,11 @@ def is_found_by_cmake(scratch):
 
 def configures(scratch, name, language, lines):
     """The command that configures a project of these lines, with the package that was installed."""
-    (scratch / name).mkdir()
-    (scratch / name / "CMakeLists.txt").write_text(f"cmake_minimum_required(VERSION 3.10)\nproject(bank {language})\n{lines}")
-    return ["cmake", "-S", scratch / name, "-B", scratch / name / "build", f"-DCMAKE_PREFIX_PATH={scratch / 'near' / 'prefix'}"]
+    folder, prefix = scratch / name, scratch / "near" / "prefix"
+    folder.mkdir()
+    head = f"cmake_minimum_required(VERSION 3.10)\nproject(bank {language})\n"
+    (folder / "CMakeLists.txt").write_text(head + lines)
+    return ["cmake", "-S", folder, "-B", folder / "build", f"-DCMAKE_PREFIX_PATH={prefix}"]
 
 
 def declared_version():
@@ -342,7 +355,7 @@ def reports_the_story_by_cargo(scratch):
     reported = run(["cargo", "build", "--offline", "--verbose", "--example", "bank"], env=env, cwd=BINDINGS / "rust", also_errors=True)
     same("that a changed library is seen", True, "Dirty sgt-sys" in reported)
     reported = run(["cargo", "test", "--offline", "--doc"], env=env, cwd=BINDINGS / "rust")
-    same("that a body which replaces its transaction is refused", True, re.search(r"OwnTransaction .* compile fail \.\.\. ok", reported) is not None)
+    same("the program that does not compile", 1, len(re.findall(r"OwnTransaction .* compile fail \.\.\. ok", reported)))
     return None
 
 
@@ -391,8 +404,9 @@ def runs_the_programs_of_its_page(scratch):
     same("what the programs tell", ["80000\n", "paid 30\n", "1500\n", "80000\n", "paid 30\n", "COMMITTED 1500\n"], reported)
     if not shutil.which("rustc") or not (scratch / "libsgt.rlib").exists():
         return "but for those in Rust: no rustc here"
-    texts = programs_of("rust", "fn main()") + [PARTS_IN_RUST % text for text in programs_of("rust", "let ") if "fn main()" not in text]
-    same("what the programs in Rust tell", ["80000\n", "true Ok(Some(30))\n", "committed 1100\ntrue Ok(None)\n"], [told_in_rust(scratch, text) for text in texts])
+    texts = [text if "fn main()" in text else PARTS_IN_RUST % text for text in programs_of("rust", "let ")]
+    wanted = ["80000\n", "true Ok(Some(30))\n", "committed 1100\ntrue Ok(None)\n"]
+    same("what the programs in Rust tell", wanted, [told_in_rust(scratch, text) for text in texts])
     return None
 
 
@@ -412,8 +426,8 @@ def told_in_rust(scratch, text):
     """What a program in Rust writes."""
     source, program = scratch / "page.rs", scratch / "page_rust"
     source.write_text(text)
-    lint = ["-D", "warnings", "-A", "unused_variables"]
-    run(["rustc", "--edition", "2021", *lint, "-L", f"native={OUT}", "-L", scratch, "--extern", "sgt", "-o", program, source])
+    words = ["rustc", "--edition", "2021", "-D", "warnings", "-A", "unused_variables", "-L", f"native={OUT}"]
+    run([*words, "-L", scratch, "--extern", "sgt", "-o", program, source])
     return run([program])
 
 

@@ -123,7 +123,8 @@ def refuses_bodies_that_replace_their_transaction_in_rust(scratch):
     bodies = re.findall(r'^ +#\[cfg\(body = "(.+)"\)\] // (.+)$', source.read_text(), re.M)
     for body, wanted in bodies:
         came = refused([*words, "--cfg", f'body="{body}"', source])
-        same(f"why a body that {body} is refused", wanted, wanted if f"error[{wanted}]" in came or f"error: {wanted}" in came else came)
+        is_so = f"error[{wanted}]" in came or f"error: {wanted}" in came
+        same(f"why a body that {body} is refused", wanted, wanted if is_so else came)
     return f"{len(bodies)} bodies"
 
 
@@ -331,7 +332,7 @@ class Later:
 
 
 def refuses_bodies_that_are_not_run_in_python(_):
-    """A body that is async or a generator would commit before it has run, and one that returns a future maybe as well."""
+    """A body that is async or a generator would commit before it has run, and one that returns a future maybe, too."""
     sgt = module()
 
     async def later(t):
@@ -348,13 +349,15 @@ def refuses_bodies_that_are_not_run_in_python(_):
 
     loop, heard = asyncio.new_event_loop(), []
     task = loop.create_task(asyncio.sleep(0))
-    bodies = [later, one_by_one, both, Later(), functools.partial(later), lambda t: later(t), lambda t: (t.read(TABLE, it) for it in RECORDS)]
+    bodies = [later, one_by_one, both, Later(), functools.partial(later), lambda t: later(t)]
+    bodies += [lambda t: (t.read(TABLE, it) for it in RECORDS)]
     bodies += [returns(result) for result in (loop.create_future(), task, Awaited(), concurrent.futures.Future())]
     with bank_of(sgt, ended=lambda ended: heard.append(ended)) as bank:
         for body in bodies:
             same("what is told", True, "must not be async" in str(caught(TypeError, lambda body=body: bank.transact(body))))
         same("the records", ({101: 10, 102: 20, 103: 30}, [], []), (values(bank), bank.live(), heard))
-        same("a body that awaits meanwhile", 10, bank.transact(lambda t: loop.run_until_complete(asyncio.sleep(0, t.read(TABLE, 101)))))
+        awaits = lambda t: loop.run_until_complete(asyncio.sleep(0, t.read(TABLE, 101)))  # noqa: E731
+        same("a body that awaits meanwhile", 10, bank.transact(awaits))
     loop.close()
 
 
@@ -389,7 +392,8 @@ NO_TIMEOUTS = (-1, -0.001, float("-inf"), float("nan"))
 
 
 def waits_for_ever_in_python(_):
-    """A timeout of infinity, or of centuries, is none: a call that would wait for its own thread says so. A negative one is refused."""
+    """A timeout of infinity, or of centuries, is none: a call that would wait for its own thread says so. A negative
+    one is refused."""
     sgt = module()
     for timeout in FOR_EVER:
         with bank_of(sgt, keeps_ended=True, cut_wait=0 if timeout is None else timeout) as bank:
@@ -399,7 +403,8 @@ def waits_for_ever_in_python(_):
             writer, reader = bank.transaction(timeout=timeout), bank.transaction()
             writer.write(TABLE, 101, 11)
             same("what was read", 11, reader.read(TABLE, 101))
-            for call in (lambda: bank.cut(timeout), lambda: bank.transact(lambda t: t.read(TABLE, 101), timeout=timeout)):
+            reads = lambda: bank.transact(lambda t: t.read(TABLE, 101), timeout=timeout)  # noqa: E731
+            for call in (lambda: bank.cut(timeout), reads):
                 same("a call that waits for its own thread", "self", what(sgt.SelfWait, call, "self"))
             same("a commit", "self", what(sgt.SelfWait, lambda: reader.commit(timeout), "self"))
     heard = []
@@ -601,20 +606,21 @@ def leaves_a_block(bank):
 
 
 def raises_nothing_of_a_hook_where_it_aborts_in_python(_):
-    """An abort on the way out calls no hook: the exception of the body is raised, and the cut that is due is made by a later call."""
+    """An abort on the way out calls no hook: the exception of the body is raised, and a later call makes the cut that
+    is due."""
     sgt, disk = module(), Disk()
     fails = lambda bank: bank.transact(makes_four_entries_and_fails)  # noqa: E731
-    ways = [(fails, KeyError), (leaves_a_block, KeyError), (drops_one, None), (quits_one, None), (lambda bank: bank.drain(timeout=0), None)]
+    ways = [(fails, KeyError), (leaves_a_block, KeyError), (drops_one, None), (quits_one, None)]
     with bank_of(sgt, cutting=disk, cut_after=4, keeps_ended=True) as bank:
-        for number, (way, error) in enumerate(ways[:-1]):
+        for number, (way, error) in enumerate(ways):
             same("how it ends", "raised" if error else None, what(error or (), lambda way=way: way(bank), "raised"))
-            same("that no hook was called", (number, number), (disk.asked, disk.asked))
+            same("that no hook was called", number, disk.asked)
             same("what is drained meanwhile", ([], number), (bank.drain(timeout=0), disk.asked))
             same("a later call", "full disk", what(OSError, lambda: bank.get(TABLE, 101), "full disk"))
             same("the next one", (10, number + 1), (bank.get(TABLE, 101), disk.asked))
         disk.is_full = False
         bank.cut()
-        same("who is live, and how often the hook was asked", ([], len(ways)), (bank.live(), disk.asked))
+        same("who is live, and how often the hook was asked", ([], len(ways) + 1), (bank.live(), disk.asked))
 
 
 def drains_all_whatever_a_hook_raises_in_python(_):
@@ -622,7 +628,8 @@ def drains_all_whatever_a_hook_raises_in_python(_):
     sgt, disk, drained = module(), Disk(), []
     with bank_of(sgt, cutting=disk, cut_after=1, keeps_ended=True) as bank:
         for value in range(8):
-            same("a function", "full disk", what(OSError, lambda value=value: bank.transact(lambda t: t.write(TABLE, 101, value)), "full disk"))
+            writes = lambda t, value=value: t.write(TABLE, 101, value)  # noqa: E731
+            same("a function", "full disk", str(caught(OSError, lambda writes=writes: bank.transact(writes))))
             same("that it was carried out", value, bank.get(TABLE, 101))
             drained += bank.drain(timeout=0) if value % 3 == 2 else []
         drained += bank.drain(timeout=0)
@@ -639,8 +646,8 @@ def is_aborted_in_its_access(bank, t):
 
 
 def passes_on_what_a_hook_raises_in_an_access_in_python(_):
-    """A body may catch what the hook before a cut raises in an access. If the access was aborted by a cycle, the body is run again.
-    A body that does not catch it is not: its call raises it."""
+    """A body may catch what the hook before a cut raises in an access. If the access was aborted by a cycle, the body
+    is run again. A body that does not catch it is not: its call raises it."""
     sgt, disk, tries = module(), Disk(), []
 
     def body(t, catches):
@@ -659,11 +666,12 @@ def passes_on_what_a_hook_raises_in_an_access_in_python(_):
     for catches in ("returns", "raises"):
         with bank_of(sgt, cutting=disk, cut_after=4) as bank:
             tries.clear()
-            same(f"what a body returns that catches it and {catches}", 2, bank.transact(lambda t, catches=catches: body(t, catches)))
-            same("its tries", ([1, 2], 2), (tries, bank.get(TABLE, 103)))
+            came = bank.transact(functools.partial(body, catches=catches))
+            same(f"what came of a body that {catches}", (2, [1, 2], 2), (came, tries, bank.get(TABLE, 103)))
     with bank_of(sgt, cutting=disk, cut_after=4) as bank:
         tries.clear()
-        same("a body that does not catch it", "full disk", str(caught(OSError, lambda: bank.transact(lambda t: body(t, None)))))
+        why = caught(OSError, lambda: bank.transact(functools.partial(body, catches=None)))
+        same("a body that does not catch it", "full disk", str(why))
         same("its tries", ([1], {101: 10, 102: 20, 103: 30}, []), (tries, values(bank), bank.live()))
 
 
@@ -676,7 +684,8 @@ def passes_on_what_both_hooks_raise_in_python(_):
         raise ZeroDivisionError
 
     calls = [lambda bank: bank.transact(makes_four_entries), lambda bank: bank.run(5), commits_in_steps, commits_one]
-    with sgt.SharedEngine(limits=(4, 1_000_000, 1), procedures=[[0, [["put", TABLE, 102, 7]] * 4]], cutting=disk, ended=hook, cut_after=4) as bank:
+    hooks, writes = {"cutting": disk, "ended": hook}, [0, [["put", TABLE, 102, 7]] * 4]
+    with sgt.SharedEngine(limits=(4, 1_000_000, 1), procedures=[writes], cut_after=4, **hooks) as bank:
         for number, call in enumerate(calls):
             why = caught(ZeroDivisionError, lambda call=call: call(bank))
             same("its context", "full disk", str(why.__context__))
@@ -706,7 +715,8 @@ def starts_nothing_where_a_hook_raises_in_python(_):
         with bank_of(sgt, cutting=disk, cut_after=4, cut_wait=LONG) as bank:
             first = bank.transaction()
             makes_four_entries(first)
-            waiting = threading.Thread(target=lambda starts=starts, bank=bank: reported.append(what(OSError, lambda: starts(bank), "full disk")))
+            begins = functools.partial(what, OSError, functools.partial(starts, bank), "full disk")
+            waiting = threading.Thread(target=lambda begins=begins: reported.append(begins()))
             waiting.start()
             waiting.join(0.1)
             same("that the start waits", [], reported)

@@ -453,9 +453,10 @@ private:
 // How long a call may wait. std::nullopt: without a limit.
 using Wait = std::optional<std::chrono::nanoseconds>;
 
-// The configuration of a shared engine: see sgt_shared_config. What a hook throws is thrown by the call in which it was called. That call
-// has been carried out, with one exception: if `cutting` throws there is no cut, and a call that had to wait for this cut before its start has
-// started nothing. A destructor, OwnTransaction::quit and a drain call no hook: a cut that is due is left to a later call.
+// The configuration of a shared engine: see sgt_shared_config. What a hook throws is thrown by the call in which it was
+// called. That call has been carried out, with one exception: if `cutting` throws there is no cut, and a call that had
+// to wait for this cut before its start has started nothing. A destructor, OwnTransaction::quit and a drain call no
+// hook: a cut that is due is left to a later call.
 struct Configuration {
     std::function<void(const sgt_ended &)> ended;
     std::function<void(sgt_engine *, std::uint64_t part)> cutting;
@@ -478,11 +479,11 @@ struct TransactLimits {
 
 class SharedEngine;
 
-// A transaction whose accesses you decide: that of the body of `SharedEngine::transact`, which commits it, or the base of a
-// BegunTransaction. It can be neither copied, moved nor assigned, so a body cannot put another one in its place. What it reads may be
-// uncommitted, and be undone afterwards: so act on it only after the commit. Each call throws Aborted if it has been aborted,
-// std::invalid_argument if a number is out of range, or std::bad_alloc; and std::logic_error (SGT_MISUSE) if you have committed or
-// aborted it before.
+// A transaction whose accesses you decide: that of the body of `SharedEngine::transact`, which commits it, or the base
+// of a BegunTransaction. It can be neither copied, moved nor assigned, so a body cannot put another one in its place.
+// What it reads may be uncommitted, and be undone afterwards: so act on it only after the commit. Each call throws
+// Aborted if it has been aborted, std::invalid_argument if a number is out of range, or std::bad_alloc; and
+// std::logic_error (SGT_MISUSE) if you have committed or aborted it before.
 class OwnTransaction {
 public:
     OwnTransaction(const OwnTransaction &) = delete;
@@ -566,8 +567,8 @@ private:
     std::exception_ptr of_hook; // what a hook threw last in an access
 };
 
-// A transaction of `SharedEngine::begin`, which you commit. Its destructor aborts it, unless it has ended before, and throws nothing. It
-// must not outlive the engine.
+// A transaction of `SharedEngine::begin`, which you commit. Its destructor aborts it, unless it has ended before, and
+// throws nothing. It must not outlive the engine.
 class [[nodiscard]] BegunTransaction : public OwnTransaction {
 public:
     BegunTransaction(BegunTransaction &&other) noexcept : OwnTransaction(other.shared) { take(other); }
@@ -581,7 +582,8 @@ public:
         return *this;
     }
 
-    // Commits it, and waits for its predecessors. Throws TimedOut if the deadline comes first, or SelfWait; then it was aborted.
+    // Commits it, and waits for its predecessors. Throws TimedOut if the deadline comes first, or SelfWait; then it was
+    // aborted.
     void commit(Wait wait = std::nullopt)
     {
         if (!is_committed(wait)) throw aborted();
@@ -607,20 +609,23 @@ namespace detail {
 
 // Whether an expression has a type, with this type in it.
 template <template <typename> class Expression, typename Type, typename = void> struct Has : std::false_type {};
-template <template <typename> class Expression, typename Type> struct Has<Expression, Type, std::void_t<Expression<Type>>> : std::true_type {};
+template <template <typename> class Expression, typename Type>
+struct Has<Expression, Type, std::void_t<Expression<Type>>> : std::true_type {};
 
 template <typename Type> using OfCoroutine = typename Type::promise_type;
 template <typename Type> using OfAwaitable = decltype(std::declval<Type &>().await_ready());
 template <typename Type> using OfFuture = decltype(std::declval<Type &>().valid(), std::declval<Type &>().wait());
 
-// Whether what a body returns may have still to be run when the body has returned: then it would use a transaction that has ended.
+// Whether what a body returns may have still to be run when the body has returned: then it would use a transaction that
+// has ended.
 template <typename Result>
-constexpr bool is_lazy = Has<OfCoroutine, Result>::value || Has<OfAwaitable, Result>::value || Has<OfFuture, Result>::value;
+constexpr bool is_lazy =
+    Has<OfCoroutine, Result>::value || Has<OfAwaitable, Result>::value || Has<OfFuture, Result>::value;
 
 } // namespace detail
 
-// A transaction of a procedure in a shared engine. Its destructor aborts it, unless it has ended before, and throws nothing. It must not
-// outlive the engine. After its end the reply to each call is SGT_OVER, or the call throws Stale.
+// A transaction of a procedure in a shared engine. Its destructor aborts it, unless it has ended before, and throws
+// nothing. It must not outlive the engine. After its end the reply to each call is SGT_OVER, or the call throws Stale.
 class [[nodiscard]] Transaction {
 public:
     Transaction(Transaction &&other) noexcept
@@ -754,7 +759,8 @@ public:
     // is a std::exception and a conflict had come first; it may rest on a value that is undone. To refuse truthfully, return the refusal
     // without a write: once that is committed, it is true. What it returns must not be a std::future, nor be awaited.
     //
-    // What a hook throws is rethrown in each case, unless the body catches it. Nothing is committed then, unless it threw in the commit.
+    // What a hook throws is rethrown in each case, unless the body catches it. Nothing is committed then, unless it
+    // threw in the commit.
     //
     // After `tries` conflicts the next try is made alone: others wait until it has ended, and it has no conflicts.
     //
@@ -763,7 +769,8 @@ public:
     template <typename Body> auto transact(Body body, TransactLimits limits = {}) -> decltype(body(std::declval<OwnTransaction &>()))
     {
         using Result = decltype(body(std::declval<OwnTransaction &>()));
-        static_assert(!detail::is_lazy<Result>, "sgt: a body must not be a coroutine, nor return a future: that would run after the commit");
+        static_assert(!detail::is_lazy<Result>,
+                      "sgt: a body must not be a coroutine, nor return a future: that would run after the commit");
         const auto begin = std::chrono::steady_clock::now();
         OwnTransaction own(shared);
         if constexpr (std::is_void_v<Result>) {

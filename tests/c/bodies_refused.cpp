@@ -1,4 +1,5 @@
-// Bodies that the compiler has to refuse: with BODY=0 all is well, and with each other number it says what stands beside that number.
+// Bodies that the compiler has to refuse: with BODY=0 all is well, and with each other number it says what stands
+// beside that number.
 #include <future>
 #include <utility>
 

@@ -1,4 +1,5 @@
-//! Bodies that the compiler has to refuse: with `body="none"` all is well, and with each other text it says the error beside that text.
+//! Bodies that the compiler has to refuse: with `body="none"` all is well, and with each other text it says the error
+//! beside that text.
 #![allow(unused)]
 use sgt::{Error, OwnTransaction, SharedEngine};
 

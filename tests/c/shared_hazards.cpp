@@ -1,6 +1,6 @@
-// What may go wrong around a shared engine in C++: hooks that throw in each kind of call, aborts on the way out of a body or by a
-// destructor, transactions that are destroyed in a hook or used after their end, and an engine that is destroyed beside a call. Each failed
-// check is printed; the last line counts them.
+// What may go wrong around a shared engine in C++: hooks that throw in each kind of call, aborts on the way out of a
+// body or by a destructor, transactions that are destroyed in a hook or used after their end, and an engine that is
+// destroyed beside a call. Each failed check is printed; the last line counts them.
 #include <atomic>
 #include <chrono>
 #include <cstdio>
@@ -106,7 +106,8 @@ struct Disk {
 };
 
 // An engine whose history is cut off after four entries, and which stores calls if it has a hook for them.
-static sgt::SharedEngine engine_on(Disk &disk, std::chrono::nanoseconds cut_wait = {}, std::function<void(const sgt_ended &)> ended = {})
+static sgt::SharedEngine engine_on(Disk &disk, std::chrono::nanoseconds cut_wait = {},
+                                   std::function<void(const sgt_ended &)> ended = {})
 {
     sgt::Configuration with;
     with.cutting = [&](sgt_engine *, std::uint64_t) {
@@ -209,8 +210,8 @@ static void a_drain_loses_nothing()
     for (int made = 0; made < 16; made++) {
         is_ended_full = made % 4 > 1; // then no cut is made, though it is due
         const char *why = is_ended_full ? "full disk of the journal" : "full disk";
-        const bool is_run = made % 2 == 0;
-        CHECK(thrown([&] { is_run ? static_cast<void>(bank.run(WRITE, {})) : bank.transact(makes_four_entries); }) == why);
+        const auto run = [&] { (void)bank.run(WRITE, {}); };
+        CHECK(thrown([&] { made % 2 == 0 ? run() : bank.transact(makes_four_entries); }) == why);
         const int asked = disk.asked;
         if (made % 3 == 2) drain_into(drained, bank);
         CHECK(disk.asked == asked);
@@ -231,7 +232,8 @@ static void is_aborted_in_its_access(sgt::SharedEngine &bank, sgt::OwnTransactio
     static_cast<void>(t.read(7, 4));
 }
 
-// A body may catch what the hook before a cut throws in its access, and is run again if the access was aborted by a cycle.
+// A body may catch what the hook before a cut throws in its access, and is run again if the access was aborted by a
+// cycle.
 static void a_body_catches_what_a_hook_throws()
 {
     for (bool is_thrown_on : {false, true}) {
@@ -285,7 +287,7 @@ static void a_start_throws_what_a_hook_throws()
         makes_four_entries(first);
         std::string why;
         std::thread waiting([&] { why = thrown([&] { starts(bank); }); });
-        std::this_thread::sleep_for(std::chrono::milliseconds(50)); // so that it waits, on most machines; its end is the same if not
+        std::this_thread::sleep_for(std::chrono::milliseconds(50)); // so that it waits; if not, all is the same
         first.quit(); // without the cut: it is left to the start
         waiting.join();
         CHECK(why == "full disk" && disk.asked == 1 && bank.live().empty() && !bank.get(7, 1));

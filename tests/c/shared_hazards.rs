@@ -1,5 +1,5 @@
-//! What may go wrong around a shared engine in Rust: hooks that panic in each kind of call, aborts on the way out of a body or by a drop,
-//! and a transaction that is dropped in a hook.
+//! What may go wrong around a shared engine in Rust: hooks that panic in each kind of call, aborts on the way out of a
+//! body or by a drop, and a transaction that is dropped in a hook.
 use sgt::{Configuration, Engine, Error, OwnTransaction, Reply, SharedEngine, TransactLimits, Transaction};
 use std::panic::{catch_unwind, AssertUnwindSafe};
 use std::sync::atomic::{AtomicBool, AtomicUsize, Ordering};
@@ -65,7 +65,8 @@ fn reads_before_a_cut() -> Result<(), sgt::Error> {
     Ok(())
 }
 
-/// A hook before a cut that panics while the disk is full, and counts its calls; and a hook for calls that ended, which does so too.
+/// A hook before a cut that panics while the disk is full, and counts its calls; and a hook for calls that ended, which
+/// does so too.
 #[derive(Default)]
 struct Disk {
     is_mended: AtomicBool,
@@ -82,7 +83,9 @@ impl Disk {
     fn engine(self: &Arc<Disk>, cut_wait: Duration) -> Result<SharedEngine, Error> {
         let (of_cuts, of_calls) = (Arc::clone(self), Arc::clone(self));
         let with = Configuration {
-            ended: Some(Box::new(move |_| assert!(!of_calls.is_journal_full.load(Ordering::Relaxed), "full disk of the journal"))),
+            ended: Some(Box::new(move |_| {
+                assert!(!of_calls.is_journal_full.load(Ordering::Relaxed), "full disk of the journal");
+            })),
             cutting: Some(Box::new(move |_, _| {
                 of_cuts.asked.fetch_add(1, Ordering::Relaxed);
                 assert!(of_cuts.is_mended.load(Ordering::Relaxed), "full disk");
@@ -113,12 +116,18 @@ type Way = (fn(&SharedEngine), &'static str);
 const WAYS: [Way; 6] = [
     (
         |bank| {
-            let reported: Result<(), Error> = bank.transact(|t| makes_four_entries(t).and_then(|()| panic!("the body")));
-            drop(reported);
+            let panics = || -> Result<(), Error> { panic!("the body") };
+            assert_eq!(bank.transact(|t| makes_four_entries(t).and_then(|()| panics())), Ok(()));
         },
         "the body",
     ),
-    (|bank| assert_eq!(bank.transact(|t| makes_four_entries(t).and(Err::<(), _>(Error::TooMany))), Err(Error::TooMany)), ""),
+    (
+        |bank| {
+            let reported: Result<(), Error> = bank.transact(|t| makes_four_entries(t).and(Err(Error::TooMany)));
+            assert_eq!(reported, Err(Error::TooMany));
+        },
+        "",
+    ),
     (
         |bank| {
             let t = bank.begin(None).expect("it is started");
@@ -194,8 +203,8 @@ fn is_aborted_in_its_access(bank: &SharedEngine, t: &OwnTransaction) -> Result<(
     t.read(7, 4).map(|_| ())
 }
 
-/// A body may catch the panic of the hook before a cut in its access, and is run again if the access was aborted by a cycle. Else its call
-/// panics, and nothing is committed.
+/// A body may catch the panic of the hook before a cut in its access, and is run again if the access was aborted by a
+/// cycle. Else its call panics, and nothing is committed.
 fn passes_panics_on() -> Result<(), Error> {
     for is_caught in [true, false] {
         let disk: Arc<Disk> = Arc::default();
@@ -237,7 +246,7 @@ fn starts_nothing() -> Result<(), Error> {
         makes_four_entries(&first)?;
         let why = std::thread::scope(|scope| {
             let waiting = scope.spawn(|| panicked(|| starts(&bank)));
-            std::thread::sleep(Duration::from_millis(50)); // so that it waits, on most machines; its end is the same if not
+            std::thread::sleep(Duration::from_millis(50)); // so that it waits; if not, all is the same
             first.quit(); // without the cut: it is left to the start
             waiting.join().expect("its panic is caught")
         });

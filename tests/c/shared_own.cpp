@@ -95,7 +95,8 @@ static void functions_throw()
     ended.commit();
     CHECK(throws<std::logic_error>([&] { ended.write(TABLE, 101, 99); }));
     auto moved = std::move(ended);
-    CHECK(throws<std::logic_error>([&] { ended.write(TABLE, 101, 99); }) && throws<std::logic_error>([&] { moved.write(TABLE, 101, 99); }));
+    CHECK(throws<std::logic_error>([&] { ended.write(TABLE, 101, 99); }));
+    CHECK(throws<std::logic_error>([&] { moved.write(TABLE, 101, 99); }));
     CHECK(bank.live().empty() && bank.get(TABLE, 101) == 10);
 }
 

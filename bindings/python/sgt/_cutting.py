@@ -1,7 +1,8 @@
 """The hook of a shared engine that is called before each cut.
 
-The library calls it, under its lock. An exception cannot pass through the library, so it is stored, and raised by the call that was to
-cut: by `Cutter.made`, through which each call is made. There is a cut only if the hook has returned, wherever an interrupt comes.
+The library calls it, under its lock. An exception cannot pass through the library, so it is stored, and raised by the
+call that was to cut: by `Cutter.made`, through which each call is made. There is a cut only if the hook has returned,
+wherever an interrupt comes.
 """
 
 from __future__ import annotations
@@ -39,7 +40,8 @@ class Cutter:
             self._raised[threading.get_ident()] = why
 
     def made(self, call: Callable[..., _Result], *words: object) -> _Result:
-        """Makes a call, and raises what the hook raised in it. If the call raises too, as at an interrupt, that is the context of it."""
+        """Makes a call, and raises what the hook raised in it. If the call raises too, as at an interrupt, that is
+        raised, with this as its context."""
         self._taken()  # what an interrupt kept an earlier call from raising is not this one's
         try:
             result = call(*words)

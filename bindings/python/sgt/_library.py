@@ -358,7 +358,7 @@ def check(status: int) -> None:
 
 
 def nanoseconds(seconds: Optional[float]) -> int:
-    """Returns the deadline for a call. None, infinity, and what is too long for a deadline: without a limit. Raises BadCall."""
+    """Returns the deadline for a call. None, infinity, and what is too long: without a limit. Raises BadCall."""
     if seconds is None or seconds >= FOREVER // 10**9:
         return FOREVER
     if not seconds >= 0:  # not a number, too

@@ -52,8 +52,9 @@ def _left(deadline: Optional[int]) -> int:
 
 
 def _is_lazy(result: object) -> bool:
-    """Whether what a body returned may have still to be run, so that it would use a transaction that has ended: if it is a generator, can
-    be awaited, or is a future of another thread. (Whoever has such a future has imported its module.)"""
+    """Whether what a body returned may have still to be run, so that it would use a transaction that has ended: if it
+    is a generator, can be awaited, or is a future of another thread. (Whoever has such a future has imported its
+    module.)"""
     kind = type(result)
     if kind in _PLAIN:
         return False
@@ -65,8 +66,8 @@ def _not_run(result: object) -> TypeError:
     """The error of a body that returned such a thing."""
     if isinstance(result, types.CoroutineType):
         result.close()  # else Python warns that it was never awaited
-    what = type(result).__name__
-    return TypeError(f"sgt: the body returned a {what}: it must not be async or a generator, nor return what is awaited or a future")
+    must_not = "it must not be async or a generator, nor return what is awaited or a future"
+    return TypeError(f"sgt: the body returned a {type(result).__name__}: {must_not}")
 
 
 class OwnTransaction(Uncopied):

@@ -78,8 +78,8 @@ class Outcome(NamedTuple):
 class SharedEngine(Uncopied):
     """An engine for many threads: any thread may call it at any time. Each call releases the interpreter's lock.
 
-    It is closed at the end of a `with` block, by `close`, or when it is collected. Timeouts are seconds; None and infinity wait without a
-    limit, and what is negative or not a number is a BadCall.
+    It is closed at the end of a `with` block, by `close`, or when it is collected. Timeouts are seconds. None and
+    infinity wait without a limit, and what is negative or not a number is a BadCall.
     """
 
     def __init__(
@@ -102,10 +102,11 @@ class SharedEngine(Uncopied):
         a KeyboardInterrupt or the like, that is raised at once, and the next call calls it again for the same `sequence`.
 
         `cutting` is called before each cut with the engine and the number of the part that is cut off, to read its history and database. It is
-        called by the call that cuts, on its thread, and nothing else happens meanwhile; it may not call the shared engine. If it raises,
-        there is no cut, and that is raised by this call, unless an interrupt is. The call has been carried out, but for `cut`, and for the
-        start of a transaction, of which nothing is left live. An abort at the end of a body or a block does not call it. If memory is short
-        the cut fails, and the hook is called again for the same part later. Calls may be cut off before `ended` is called for them.
+        called by the call that cuts, on its thread, and nothing else happens meanwhile; it may not call the shared
+        engine. If it raises, there is no cut, and that is raised by this call, unless an interrupt is. The call has
+        been carried out, but for `cut`, and for the start of a transaction, of which nothing is left live. An abort at
+        the end of a body or a block does not call it. If memory is short the cut fails, and the hook is called again
+        for the same part later. Calls may be cut off before `ended` is called for them.
 
         With `keeps_ended` such calls are stored until `drain` takes them. Once the history has `cut_after` entries and no transaction
         is live, it is cut off; new transactions wait at most `cut_wait` seconds for that. NEVER: it never is. 0: never with a hook
@@ -209,8 +210,8 @@ class SharedEngine(Uncopied):
         given, outcome = (ctypes.c_int64 * 4)(), CSharedOutcome(size=ctypes.sizeof(CSharedOutcome))
         pack_args(given, args)
         options = CRunOptions(ctypes.sizeof(CRunOptions), nanoseconds(timeout), whole(tries, 0, 2**32 - 1))
-        number = whole(procedure, 0, 65535)
-        check(self._commit(outcome.ticket, FREE.sgt_shared_run, self._shared, number, given, len(args), options, outcome))
+        words = self._shared, whole(procedure, 0, 65535), given, len(args), options, outcome
+        check(self._commit(outcome.ticket, FREE.sgt_shared_run, *words))
         ticket = ticket_of(outcome.ticket) if outcome.tries else None
         sequence = outcome.sequence if outcome.sequence < 2**64 - 1 else None
         return Outcome(reply_of(outcome.reply, outcome.reply), ticket, outcome.tries, outcome.waits, sequence)
@@ -224,10 +225,11 @@ class SharedEngine(Uncopied):
         raised, unless a conflict had come first; it may rest on a value that is undone. To refuse truthfully, return the refusal without a write:
         once that is committed, it is true. To abort, raise an exception of your own.
 
-        The body must not commit the transaction itself: Misuse. A body that is async or a generator, or returns what is awaited or a
-        future, is a TypeError.
+        The body must not commit the transaction itself: Misuse. A body that is async or a generator, or returns what is
+        awaited or a future, is a TypeError.
 
-        What a hook raises is raised in each case, unless the body catches it. Nothing is committed then, unless it was raised in the commit.
+        What a hook raises is raised in each case, unless the body catches it. Nothing is committed then, unless it was
+        raised in the commit.
 
         After `tries` conflicts the next try is made alone: others wait until it has ended, and it has no conflicts.
 

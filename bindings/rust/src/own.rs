@@ -38,7 +38,8 @@ impl Default for TransactLimits {
 #[must_use = "a transaction that is dropped is aborted"]
 pub struct OwnTransaction {
     engine: SharedEngine,
-    // In a cell, since an access writes it. So one thread at a time uses it: there are no references to what is in it during a call.
+    // In a cell, since an access writes it. So one thread at a time uses it: there are no references to what is in it
+    // during a call.
     reported: UnsafeCell<c::Transaction>,
 }
 
@@ -60,7 +61,8 @@ impl SharedEngine {
     /// returned, unless a conflict had come first; it may rest on a value that is undone. To refuse truthfully, return the refusal as `Ok`
     /// without a write: once that is committed, it is true. If the body panics, the transaction is aborted.
     ///
-    /// If a hook panics, so does the body or this call. Nothing is committed then, unless the hook panicked in the commit.
+    /// If a hook panics, so does the body or this call. Nothing is committed then, unless the hook panicked in the
+    /// commit.
     ///
     /// After 8 conflicts the next try is made alone: others wait until it has ended, and it has no conflicts.
     ///
@@ -146,7 +148,8 @@ impl OwnTransaction {
 
     /// What is noted of it now.
     fn reported(&self) -> &c::Transaction {
-        // The library writes it in calls of this thread alone, and none of them is made while the caller has this reference.
+        // The library writes it in calls of this thread alone, and none of them is made while the caller has this
+        // reference.
         unsafe { &*self.reported.get() }
     }
 
@@ -208,8 +211,8 @@ impl OwnTransaction {
 impl Drop for OwnTransaction {
     fn drop(&mut self) {
         if self.reported().is_live != 0 {
-            // The abort of a live transaction never fails, also inside the engine's hook. One that has ended or was cut off needs none. It calls
-            // no hook, so it does not panic.
+            // The abort of a live transaction never fails, also inside the engine's hook. One that has ended or was cut
+            // off needs none. It calls no hook, so it does not panic.
             let _ = unsafe { c::sgt_shared_abandon(self.engine.at(), &self.ticket()) };
         }
     }
