@@ -707,6 +707,18 @@ def commits_in_steps(bank):
     t.commit()
 
 
+def cuts_where_each_transaction_is_aborted_in_python(_):
+    """Where no call but aborts on the way out could make the cut that is due, the next start does."""
+    sgt, ended = module(), []
+    fails = lambda bank: what(KeyError, lambda: bank.transact(makes_four_entries_and_fails), ended.append(1))  # noqa: E731
+    for way in (drops_one, quits_one, lambda bank: what(KeyError, lambda: leaves_a_block(bank), None), fails):
+        with sgt.SharedEngine(limits=(4, 100, 1), cut_after=40) as bank:
+            for _ in range(1_000):
+                way(bank)
+            same("that the history is short", True, bank.entries() <= 40 and not bank.live())
+    same("how many functions failed", 1_000, len(ended))
+
+
 def starts_nothing_where_a_hook_raises_in_python(_):
     """A start that waits for a cut makes it, and the hook raises: nothing stays live, and the body is not called."""
     sgt, reported = module(), []
@@ -900,6 +912,7 @@ CASES = [
     drains_all_whatever_a_hook_raises_in_python,
     passes_on_what_a_hook_raises_in_an_access_in_python,
     passes_on_what_both_hooks_raise_in_python,
+    cuts_where_each_transaction_is_aborted_in_python,
     starts_nothing_where_a_hook_raises_in_python,
     ends_at_a_signal_in_python,
     leaves_nothing_live_at_signals,

@@ -76,6 +76,7 @@ static void cut_if_due(sgt_shared *s, struct deadline *until)
 {
     uint32_t wakes = 0, cut = SGT_OK;
     sgt_ask ask = {.until = SGT_AT_ONCE};
+    s->is_cut_left = false;
     const uint32_t next = sgt_desk_plan(&s->engine, &s->desk, &s->plan, (uint64_t)now(), &wakes);
     if (wakes) wake_all(s);
     if (next == SGT_AGAIN) cut = cut_turn(s, &ask, until);

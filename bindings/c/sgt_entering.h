@@ -114,6 +114,13 @@ static inline uint32_t leave_quietly(sgt_shared *s, uint32_t status)
     return status;
 }
 
+/* The same for an abort. A start makes the cut first: else none would be made while all are aborted so. */
+static inline uint32_t leave_cut(sgt_shared *s, uint32_t status)
+{
+    if (!is_in_child(s)) s->is_cut_left |= s->plan.after > 0 && s->before_cut == 0;
+    return leave_quietly(s, status);
+}
+
 /*
  * Enters the engine with this number: another one may have its memory, if the thread has been held up before it has the
  * lock.

@@ -155,7 +155,7 @@ uint32_t sgt_shared_abandon(sgt_shared *shared, const sgt_ticket *ticket)
 {
     if (!shared || !ticket || is_in_child(shared) || !is_in_hook(shared)) {
         const uint32_t status = enter_for(shared, ticket);
-        return status == SGT_OK ? leave_quietly(shared, abandon(shared, ticket)) : status;
+        return status == SGT_OK ? leave_cut(shared, abandon(shared, ticket)) : status;
     }
     if (ticket->engine != shared->number) return SGT_MISUSE;
     if (ticket->part != shared->part) return SGT_STALE;
@@ -230,7 +230,7 @@ uint32_t sgt_transaction_quit(sgt_transaction *transaction)
     if (!is_made(transaction) || transaction->tries == 0) return SGT_BAD_CALL;
     if (!transaction->is_live) return transaction->status;
     const uint32_t status = enter_for(transaction->shared, &transaction->ticket);
-    return status == SGT_OK ? leave_quietly(transaction->shared, quit_try(transaction->shared, transaction)) : status;
+    return status == SGT_OK ? leave_cut(transaction->shared, quit_try(transaction->shared, transaction)) : status;
 }
 
 uint32_t sgt_shared_transact(sgt_shared *shared, sgt_body body, void *context, const sgt_transact_options *options,

@@ -104,8 +104,8 @@ typedef struct sgt_live {
  *
  * What a hook throws reaches whoever made the call. The call has been carried out then, and has written what it writes:
  * but if `cutting` throws, there is no cut, and the next one is put off. One case is different: a call that starts a
- * transaction, and waits for a cut that is due, makes that cut itself. If `cutting` throws there, nothing was started,
- * and no try of the call is live.
+ * transaction first makes a cut that is due, if it waits for that, or if an abort that calls no hook has left it. If
+ * `cutting` throws there, nothing was started, and no try of the call is live.
  */
 typedef struct sgt_shared_config {
     size_t size;        /* sizeof(sgt_shared_config) */
@@ -319,8 +319,8 @@ uint32_t sgt_shared_try(sgt_shared *shared, sgt_transaction *transaction, const 
 uint32_t sgt_transaction_commit(sgt_transaction *transaction, int64_t wait_ns);
 
 /*
- * Aborts it. It calls no hook: a cut that is due is left to a later call. SGT_UNDONE if it had been aborted by a conflict before;
- * SGT_BAD_CALL if it was not started.
+ * Aborts it. It calls no hook: a cut that is due is left to a later call. SGT_UNDONE if it had been aborted by a
+ * conflict before; SGT_BAD_CALL if it was not started.
  */
 uint32_t sgt_transaction_quit(sgt_transaction *transaction);
 

@@ -53,13 +53,24 @@ static uint32_t await_others(sgt_shared *s, bool alone, struct deadline *until)
     }
 }
 
-/* Waits until the desk may be asked for a start, and makes room for its end. Where no try is alone, or is to be, none is waited for. */
+/* Makes a cut that was left, if it is due. SGT_MISUSE in a child. */
+static uint32_t make_cut_left(sgt_shared *s, struct deadline *until)
+{
+    cut_if_due(s, until);
+    return is_in_child(s) ? SGT_MISUSE : SGT_OK;
+}
+
+/*
+ * Makes a cut that was left, waits until the desk may be asked for a start, and makes room for its end. Where no try is
+ * alone, or is to be, none is waited for.
+ */
 static inline uint32_t may_start(sgt_shared *s, bool alone, struct deadline *until)
 {
     uint32_t status = SGT_OK;
     s->solo.waiting += alone;
     until->is_alone = alone;
-    if (s->solo.waiting > 0 || s->solo.is_live || s->plan.pauses) status = await_others(s, alone, until);
+    if (s->is_cut_left) status = make_cut_left(s, until);
+    if (status == SGT_OK && (s->solo.waiting > 0 || s->solo.is_live || s->plan.pauses)) status = await_others(s, alone, until);
     if (status == SGT_MISUSE) return status;
     if (status == SGT_OK && s->config.keeps_ended && !reserve(&s->queue, MOST_LIVE)) status = SGT_NO_MEMORY;
     if (alone) wait_alone_no_longer(s, until);

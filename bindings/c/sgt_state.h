@@ -61,6 +61,7 @@ struct sgt_shared {
     bool abandons;               /* whether a live transaction is abandoned */
     bool allows_cut;             /* whether the hook before a cut has not refused it */
     uint64_t before_cut;         /* so many turns at least have to be made before the plan's next cut is due */
+    bool is_cut_left;            /* whether an abort that calls no hook has left a cut that may be due */
     struct queue queue;
     sgt_ended ended;
     sgt_shared *next;            /* of those that are closed */

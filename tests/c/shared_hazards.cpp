@@ -169,10 +169,8 @@ static const Way ways[] = {
      },
      ""},
     {[](sgt::SharedEngine &bank) {
-         for (int made = 0; made < 3; made++) {
-             auto t = bank.start(WRITE, {});
-             CHECK(t.first->step().kind == SGT_WROTE);
-         }
+         auto t = bank.start(WRITE, {});
+         while (t.first->step().kind != SGT_ENDED) continue;
      },
      ""},
 };

@@ -147,10 +147,8 @@ const WAYS: [Way; 6] = [
     ),
     (
         |bank| {
-            for _ in 0..3 {
-                let mut t = bank.start(WRITE, &[], None).expect("it is started").expect("it is started");
-                t.step().expect("it is live");
-            }
+            let mut t = bank.start(WRITE, &[], None).expect("it is started").expect("it is started");
+            while t.step().expect("it is live") != Reply::Ended {}
         },
         "",
     ),

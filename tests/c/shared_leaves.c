@@ -87,11 +87,11 @@ static void beside_a_writer(struct stage *it)
     CHECK(pthread_create(&thread, 0, begins_writer, it) == 0 && pthread_join(thread, 0) == 0);
 }
 
-/* It has ended, and left its cut to the next start. */
+/* It has ended, and left its cut to the next start, which waits for it or not. */
 static void behind_a_writer(struct stage *it)
 {
     beside_a_writer(it);
-    CHECK(sgt_shared_abandon(it->shared, &it->other) == SGT_OK && it->shared->plan.pauses);
+    CHECK(sgt_shared_abandon(it->shared, &it->other) == SGT_OK && it->shared->plan.pauses == it->scene->pauses);
 }
 
 static void has_begun_a_try(struct stage *it)
@@ -177,11 +177,6 @@ static void try_has_ended(struct stage *it)
 
 static void is_aborted(struct stage *it) { CHECK(it->reply.kind == SGT_ABORTED && lives(it->shared) == 0); }
 
-static void abort_is_told(struct stage *it)
-{
-    CHECK(it->outcome.reply.kind == SGT_ABORTED && it->outcome.reply.cause == SGT_BY_QUIT && lives(it->shared) == 0);
-}
-
 static void nothing_is_done(struct stage *it) { CHECK(lives(it->shared) == 0); }
 
 /* A call that makes the cut for which starts wait, before it starts something. */
@@ -200,10 +195,12 @@ static const struct scene scenes[] = {
     {"`cutting` in a commit", true, false, beside_a_writer, commits_other, is_committed},
     {"`cutting` in an abort", true, false, beside_a_writer, quits_other, is_aborted},
     {"`cutting` in a commit of a try", true, false, has_begun_a_try, commits_try, try_has_ended},
-    {"`cutting` in an abort of a try", true, false, has_begun_a_try, quits_try, try_has_ended},
     {"`cutting` in a function", true, false, 0, transacts, outcome_is_told},
-    {"`cutting` in a function that aborts", true, false, 0, transacts_quit, abort_is_told},
     {"`cutting` in a cut", true, false, 0, cuts, nothing_is_done},
+    {"`cutting` that was left to a start", true, false, behind_a_writer, starts, nothing_is_started},
+    {"`cutting` that was left to a run", true, false, behind_a_writer, runs, nothing_is_started},
+    {"`cutting` that was left to a try", true, false, behind_a_writer, tries, nothing_is_started},
+    {"`cutting` that was left to a function", true, false, behind_a_writer, transacts, nothing_is_started},
     {"`cutting` before a start", true, true, behind_a_writer, starts, nothing_is_started},
     {"`cutting` before a run", true, true, behind_a_writer, runs, nothing_is_started},
     {"`cutting` before a try", true, true, behind_a_writer, tries, nothing_is_started},
@@ -346,6 +343,39 @@ static void an_abandoned_transaction_calls_no_hook(void)
     beside_a_writer(&it);
     CHECK(sgt_shared_abandon(it.shared, &it.other) == SGT_OK);
     the_cut_comes_later(&it);
+}
+
+static void an_abort_of_a_try_calls_no_hook(void)
+{
+    struct stage it;
+    begin_stage(&it, &quiet);
+    has_begun_a_try(&it);
+    CHECK(quits_try(&it) == SGT_OK && !it.own.is_live && it.own.status == SGT_OK);
+    the_cut_comes_later(&it);
+}
+
+static void a_function_that_aborts_calls_no_hook(void)
+{
+    struct stage it;
+    begin_stage(&it, &quiet);
+    CHECK(transacts_quit(&it) == SGT_OK);
+    CHECK(it.outcome.reply.kind == SGT_ABORTED && it.outcome.reply.cause == SGT_BY_QUIT);
+    the_cut_comes_later(&it);
+}
+
+/* Where each transaction is aborted by a call that calls no hook, the starts make the cuts. */
+static void aborts_alone_are_cut_off(void)
+{
+    enum { MADE = 100 };
+    struct stage it;
+    begin_stage(&it, &quiet);
+    it.is_armed = false;
+    for (int made = 0; made < MADE; made++) {
+        it.other = begins(it.shared);
+        CHECK(sgt_shared_abandon(it.shared, &it.other) == SGT_OK && it.reports == made);
+    }
+    CHECK(part_of(it.shared) == MADE - 1);
+    serves_and_closes(it.shared);
 }
 
 static uint32_t leaves_body(void *context, sgt_transaction *t)
@@ -518,6 +548,9 @@ int main(void)
     for (int i = 0; i < SCENES; i++) a_hook_leaves_two_engines(&scenes[i]);
     a_hook_leaves_what_it_has_abandoned();
     an_abandoned_transaction_calls_no_hook();
+    an_abort_of_a_try_calls_no_hook();
+    a_function_that_aborts_calls_no_hook();
+    aborts_alone_are_cut_off();
     a_body_that_is_left_calls_no_hook();
     a_drain_calls_no_hook();
     a_body_that_goes_on_is_run_again();
