@@ -139,8 +139,10 @@ struct body {
     sgt_body function;
     void *context;
     sgt_transaction *transaction;
-    sgt_transaction given;   /* what that was when the body was called */
-    uint32_t reported;       /* what it returns */
+    sgt_shared *shared;      /* of that, as are those below, when the body was called */
+    sgt_ticket ticket;
+    uint32_t tries, waits;
+    uint32_t reported;       /* what the body returns */
 };
 
 static void call_body(void *of)
@@ -153,14 +155,14 @@ static void call_body(void *of)
 static void break_body_off(void *of)
 {
     const struct body *it = of;
-    sgt_shared_abandon(it->given.shared, &it->given.ticket);
+    sgt_shared_abandon(it->shared, &it->ticket);
 }
 
 /* Whether the transaction is still that with which the body was called. */
 static bool is_given(const struct body *it)
 {
-    const sgt_ticket *is = &it->transaction->ticket, *was = &it->given.ticket;
-    return it->transaction->shared == it->given.shared && is->engine == was->engine && is->part == was->part && is->tid == was->tid;
+    const sgt_ticket *is = &it->transaction->ticket, *was = &it->ticket;
+    return it->transaction->shared == it->shared && is->engine == was->engine && is->part == was->part && is->tid == was->tid;
 }
 
 /*
@@ -172,8 +174,8 @@ static uint32_t refuse_another(struct body *it)
     sgt_transaction *t = it->transaction;
     if (is_made(t) && t->is_live) sgt_shared_abandon(t->shared, &t->ticket);
     break_body_off(it);
-    *t = it->given;
-    t->is_live = 0;
+    *t = (sgt_transaction){.size = sizeof *t, .shared = it->shared, .ticket = it->ticket, .sequence = UINT64_MAX};
+    t->tries = it->tries, t->waits = it->waits;
     return t->status = SGT_MISUSE;
 }
 
@@ -189,8 +191,9 @@ static uint32_t end_as_reported(sgt_transaction *t, uint32_t reported, struct de
 /* Calls the body for a try, and ends that. */
 static uint32_t run_body(sgt_body body, void *context, sgt_transaction *t, struct deadline *until)
 {
+    struct body it = {.function = body, .context = context, .transaction = t, .shared = t->shared, .ticket = t->ticket};
+    it.tries = t->tries, it.waits = t->waits;
     t->is_live = IN_BODY;
-    struct body it = {.function = body, .context = context, .transaction = t, .given = *t};
     call_guarded(call_body, break_body_off, &it);
     if (!is_given(&it)) return refuse_another(&it);
     if (t->is_live) t->is_live = 1;
