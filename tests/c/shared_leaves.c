@@ -201,6 +201,7 @@ static const struct scene scenes[] = {
     {"`cutting` that was left to a run", true, false, behind_a_writer, runs, nothing_is_started},
     {"`cutting` that was left to a try", true, false, behind_a_writer, tries, nothing_is_started},
     {"`cutting` that was left to a function", true, false, behind_a_writer, transacts, nothing_is_started},
+    {"`cutting` that was left to one alone", true, false, behind_a_writer, transacts_alone, nothing_is_started},
     {"`cutting` before a start", true, true, behind_a_writer, starts, nothing_is_started},
     {"`cutting` before a run", true, true, behind_a_writer, runs, nothing_is_started},
     {"`cutting` before a try", true, true, behind_a_writer, tries, nothing_is_started},
@@ -378,6 +379,39 @@ static void aborts_alone_are_cut_off(void)
     serves_and_closes(it.shared);
 }
 
+/* A start behind a cut whose hook does not return */
+
+static void *cuts_and_is_left(void *of)
+{
+    cuts(of);
+    return 0;
+}
+
+static const struct scene before_start = {"a start behind a cut", true, false, beside_a_writer, 0, 0};
+
+static void a_start_goes_on_when_the_cut_is_left(void)
+{
+    struct stage it;
+    pthread_t cutter;
+    sgt_ticket more = {0};
+    sgt_reply reply = {0};
+    bool waits = false;
+    begin_stage(&it, &before_start);
+    it.shared->plan.after = 0; /* no cut but that of the thread */
+    CHECK(pthread_create(&cutter, 0, cuts_and_is_left, &it) == 0);
+    while (!waits) {
+        lock(it.shared);
+        waits = it.shared->desk.cutters > 0;
+        unlock(it.shared);
+    }
+    CHECK(sgt_shared_begin(it.shared, 0, &more, &reply) == SGT_TIMED_OUT);
+    CHECK(sgt_shared_abandon(it.shared, &it.other) == SGT_OK);
+    CHECK(sgt_shared_begin(it.shared, SGT_FOREVER, &more, &reply) == SGT_OK && it.reports == 1 && part_of(it.shared) == 0);
+    pthread_join(cutter, 0);
+    holds_nothing(it.shared);
+    serves_and_closes(it.shared);
+}
+
 static uint32_t leaves_body(void *context, sgt_transaction *t)
 {
     struct stage *it = context;
@@ -551,6 +585,7 @@ int main(void)
     an_abort_of_a_try_calls_no_hook();
     a_function_that_aborts_calls_no_hook();
     aborts_alone_are_cut_off();
+    a_start_goes_on_when_the_cut_is_left();
     a_body_that_is_left_calls_no_hook();
     a_drain_calls_no_hook();
     a_body_that_goes_on_is_run_again();
