@@ -614,13 +614,14 @@ uint32_t sgt_explain_procedure(uint64_t number, const char *procedure, size_t le
  * The rest takes no engine and is not proved. The version is that of this header. sgt_version returns that of the linked
  * library, so that a program can compare the two. sgt_status_text returns a sentence for a status. Do not free either text.
  *
- * Since 0.2.0, sgt_ended says whether its call wrote. Since 0.1.0, sgt_shared_outcome and sgt_transaction have one member more, and a
- * shared engine cuts its history by itself unless its configuration says otherwise. So compile your program anew.
+ * A library serves programs that were compiled with headers of the same major and minor number, if its patch number is
+ * not lower. A patch adds calls and numbers at most. With another minor number structs and calls may differ: compile
+ * anew. So the name by which programs find the shared library has both numbers: libsgt.so.0.4.
  */
 #define SGT_VERSION_MAJOR 0
-#define SGT_VERSION_MINOR 3
-#define SGT_VERSION_PATCH 1
-#define SGT_VERSION "0.3.1"
+#define SGT_VERSION_MINOR 4
+#define SGT_VERSION_PATCH 0
+#define SGT_VERSION "0.4.0"
 
 const char *sgt_version(void);
 const char *sgt_status_text(uint32_t status);

@@ -11,6 +11,7 @@ its output is compared. Each case is reported, also what was left out since a pr
 
 import contextlib
 import copy
+import ctypes
 import os
 import pathlib
 import pickle
@@ -26,7 +27,7 @@ from collections import Counter
 
 sys.dont_write_bytecode = True
 from helpers.cases import C_SOURCES, TESTS, Differs, same, run_cases  # noqa: E402
-from helpers.library import BINDINGS, C_FLAGS, CPP_FLAGS, OUT, SANITIZERS, WRAPS, built, can, run  # noqa: E402
+from helpers.library import BINDINGS, C_FLAGS, CPP_FLAGS, OUT, SANITIZERS, WRAPS, built, can, refused, run  # noqa: E402
 from helpers.package import SOON, Interrupted, elsewhere, interrupted, interrupted_beside, interrupts, module, refusal, what  # noqa: E402
 
 TOP = TESTS.parent
@@ -45,10 +46,11 @@ A_PROCEDURE = 'a procedure is a list in the list of procedures, as [[0,[["answer
 def makes_the_library(_):
     run([BINDINGS / "build", *sys.argv[1:]], seconds=BUILD_SECONDS)
     names = [line.split()[-1] for line in run(["nm", "-D", "--defined-only", OUT / "libsgt.so"]).splitlines()]
-    seen = {name.partition("@")[0] for name in names if not name.startswith("SGT_0")}
+    seen = {name.partition("@")[0] for name in names if not name.startswith("SGT_")}
     same("names of libsgt.so that are not the headers'", [], sorted(seen - declared()))
     same("names of the headers that libsgt.so has not", [], sorted(declared() - seen))
-    same("names without a version", [], [name for name in names if not name.endswith("SGT_0")])
+    same("names without the version", [], [name for name in names if not name.endswith(f"SGT_{minor_version()}")])
+    same("the soname", True, f"[libsgt.so.{minor_version()}]" in run(["readelf", "-d", OUT / "libsgt.so"]))
 
 
 def declared():
@@ -58,11 +60,79 @@ def declared():
     return {line.split("(")[0].split()[-1].lstrip("*") for line in lines if line.startswith(heads)}
 
 
+def has_the_structs_and_calls_of_its_version(_):
+    """What programs were built with is as `abi.txt` has it. Where that changes, the minor number counts up, and so the
+    soname."""
+    stored = (BINDINGS / "abi.txt").read_text().splitlines()
+    made = run([sys.executable, BINDINGS / "abi.py"]).splitlines()
+    same("the version of bindings/abi.txt, which bindings/abi.py writes", f"version {minor_version()}", stored[0])
+    same("what has changed, so that the minor number counts up", [], [line for line in stored if line not in made])
+    same("what bindings/abi.txt lacks", [], [line for line in made if line not in stored])
+    calls = [line for line in stored if line.startswith("call ") and "typedef" not in line]
+    same("the calls in it", declared(), {re.search(r"sgt_\w+(?=\()", line)[0] for line in calls})
+    return f"{len(stored)} lines"
+
+
+def structs_of_c():
+    """The structs of the headers: of each the size, and the names, places and sizes of its fields."""
+    structs = {}
+    for name, size, fields in re.findall(r"^struct sgt_(\w+) (\d+): (.*)$", (BINDINGS / "abi.txt").read_text(), re.M):
+        structs[name] = int(size), [(it[0], *map(int, it[1:])) for it in map(str.split, fields.split(", "))]
+    return structs
+
+
+def has_the_structs_of_c_in_python(_):
+    module()
+    from sgt import _library
+
+    structs = structs_of_c()
+    for name, (size, fields) in structs.items():
+        it = getattr(_library, "C" + "".join(map(str.title, name.split("_"))))
+        same(f"the size of {name}", size, ctypes.sizeof(it))
+        places = [(field, getattr(it, field).offset, getattr(it, field).size) for field, _ in it._fields_]
+        same(f"the fields of {name}", fields, places)
+    return f"{len(structs)} structs"
+
+
+RUST_PLACES = """
+macro_rules! field {
+    ($it:expr, $field:ident) => {{
+        let it = $it.as_ptr();
+        let (field, rest) = unsafe { (std::ptr::addr_of!((*it).$field), std::mem::size_of_val(&(*it).$field)) };
+        print!(" {} {} {},", stringify!($field), field as usize - it as usize, rest)
+    }};
+}
+fn main() {
+"""
+
+
+def has_the_structs_of_c_in_rust(scratch):
+    if not shutil.which("rustc"):
+        return "left out: no rustc here"
+    structs, lines, wanted = structs_of_c(), [], []
+    for name, (size, fields) in structs.items():
+        kind = "sgt_sys::" + "".join(map(str.title, name.split("_")))
+        lines += [f"    let it = std::mem::MaybeUninit::<{kind}>::zeroed();"]
+        lines += [f'    print!("{name} {{}}:", std::mem::size_of::<{kind}>());']
+        lines += [*(f"    field!(it, {field[0]});" for field in fields), "    println!();"]
+        wanted.append(f"{name} {size}:" + "".join(f" {field} {place} {its}," for field, place, its in fields))
+    source, places = scratch / "places.rs", scratch / "places"
+    source.write_text(RUST_PLACES + "\n".join(lines) + "\n}\n")
+    words = ["rustc", "--edition", "2021", "--out-dir", places, "-L", places]
+    run([*words, "--crate-type", "lib", "--crate-name", "sgt_sys", BINDINGS / "rust" / "sgt-sys" / "src" / "lib.rs"])
+    run([*words, "--extern", "sgt_sys", source])
+    same("the structs", wanted, run([places / "places"]).splitlines())
+    return f"{len(structs)} structs"
+
+
 def runs_installed(scratch, folder, lib, flags):
-    """Builds a program with these flags, and runs it with the library of the folder."""
+    """Builds a program with these flags, and runs it with the library of the folder, which it finds by its soname."""
     program = scratch / "installed"
     run(["cc", "-std=c11", "-o", program, BINDINGS / "c" / "threads.c", *flags])
     same("the money", MONEY, run([program], env={"LD_LIBRARY_PATH": str(folder / lib)}))
+    name = f"libsgt.so.{minor_version()}"
+    same("the library that it finds", True, f"[{name}]" in run(["readelf", "-d", program]))
+    same("that this is a file", False, (folder / lib / name).is_symlink())
 
 
 def installs(scratch):
@@ -80,39 +150,99 @@ def installs(scratch):
     runs_installed(scratch, stage, "lib64", [f"-I{stage / 'include'}", f"-L{stage / 'lib64'}", "-lsgt", "-pthread"])
 
 
+def span_of_its_page(begin):
+    """The code on the page of the library that begins so, as its readers copy it."""
+    spans = re.findall(r"`([^`\n]+)`", (TOP / "docs" / "LIBRARY.md").read_text())
+    found = [span for span in spans if span.startswith(begin)]
+    same(f"how often the page has {begin}", 1, len(found))
+    return found[0]
+
+
+def runs_the_commands_of_its_page(scratch):
+    """The commands of the page, but for the folders in which they put something."""
+    block = (TOP / "docs" / "LIBRARY.md").read_text().split("```sh\n")[1].split("```")[0]
+    commands = [line.partition("#")[0].split() for line in block.splitlines()]
+    same("the first command, which makes the library", ["bindings/build"], commands[0])
+    places = {"/usr/local": scratch / "page", "dist": scratch / "dist"}
+    for words in commands[1:]:
+        run([places.get(word, word) for word in words], cwd=TOP)
+    same("what an install made", True, (scratch / "page" / "lib" / "libsgt.so").exists())
+    same("what else was made", 1, len(list((scratch / "dist").glob("*.whl"))))
+    for begin, source in (("cc -I", "c/bank.c"), ("c++ -std=c++17", "cpp/bank.cpp")):
+        words = span_of_its_page(begin).replace(f" {pathlib.Path(source).name} ", f" bindings/{source} ").split()
+        if shutil.which(words[0]):
+            run([*words, "-o", scratch / "page_bank"], cwd=TOP)
+            same(f"the story of {source}", STORY, run([scratch / "page_bank"]))
+    name, _, path = span_of_its_page("PYTHONPATH=").partition("=")
+    words = [sys.executable, "-B", "-c", "import sgt; print(sgt.version())"]
+    same("what the package says", f"{declared_version()}\n", run(words, env={**os.environ, name: path}, cwd=TOP))
+
+
+def builds_by_the_line_of_its_page_for_cargo(scratch):
+    """A program in Rust that has the page's dependency, with the library that was installed."""
+    if not shutil.which("cargo"):
+        return "left out: no cargo here"
+    (scratch / "crate" / "src").mkdir(parents=True)
+    line = span_of_its_page("sgt = {").replace("...", str(TOP))
+    head = '[package]\nname = "bank"\nversion = "0.1.0"\nedition = "2021"\n\n[dependencies]\n'
+    (scratch / "crate" / "Cargo.toml").write_text(f"{head}{line}\n")
+    shutil.copy(BINDINGS / "rust" / "examples" / "bank.rs", scratch / "crate" / "src" / "main.rs")
+    env = dict(os.environ, CARGO_TARGET_DIR=str(scratch / "target"), SGT_LIB_DIR=str(scratch / "page" / "lib"))
+    same("the story", STORY, run(["cargo", "run", "--offline", "--quiet"], env=env, cwd=scratch / "crate"))
+    return None
+
+
 def is_found_by_pkg_config(scratch):
     if not shutil.which("pkg-config"):
         return "left out: no pkg-config here"
     prefix = scratch / "near" / "prefix"
     env = dict(os.environ, PKG_CONFIG_PATH=str(prefix / "lib" / "pkgconfig"))
-    flags = run(["pkg-config", "--cflags", "--libs", "sgt"], env=env).split()
+    flags = run(span_of_its_page("pkg-config --").split(), env=env).split()
     same("the version", declared_version(), run(["pkg-config", "--modversion", "sgt"], env=env).strip())
     runs_installed(scratch, prefix, "lib", [*flags, "-pthread"])
     return None
 
 
 def is_found_by_cmake(scratch):
+    """By the lines of the page, and by each version that the installed one serves."""
     if not shutil.which("cmake"):
         return "left out: no cmake here"
-    folder = scratch / "cmake"
-    folder.mkdir()
-    (folder / "CMakeLists.txt").write_text(
-        "cmake_minimum_required(VERSION 3.10)\nproject(bank C)\nset(CMAKE_C_STANDARD 11)\n"
-        f"find_package(sgt {declared_version()} REQUIRED)\nfind_package(Threads REQUIRED)\n"
-        f"foreach(kind sgt static)\nadd_executable(bank_${{kind}} {BINDINGS / 'c' / 'threads.c'})\n"
-        "target_link_libraries(bank_${kind} sgt::${kind} Threads::Threads)\nendforeach()\n"
-    )
-    run(["cmake", "-S", folder, "-B", folder / "build", f"-DCMAKE_PREFIX_PATH={scratch / 'near' / 'prefix'}"])
-    run(["cmake", "--build", folder / "build"])
+    find, link = span_of_its_page("find_package("), span_of_its_page("target_link_libraries(")
     for kind in ("sgt", "static"):
-        same("the money", MONEY, run([folder / "build" / f"bank_{kind}"]))
-    return None
+        same("the target", True, "sgt::sgt" in link)
+        program = f"set(CMAKE_C_STANDARD 11)\nadd_executable(bank {BINDINGS / 'c' / 'threads.c'})\n"
+        threads = "find_package(Threads REQUIRED)\ntarget_link_libraries(bank Threads::Threads)\n"
+        run(configures(scratch, kind, "C", f"{find}\n{program}{threads}{link.replace('sgt::sgt', f'sgt::{kind}')}\n"))
+        run(["cmake", "--build", scratch / kind / "build"])
+        same("the money", MONEY, run([scratch / kind / "build" / "bank"]))
+    major, minor, patch = map(int, declared_version().split("."))
+    for asked in (f"{major}.{minor}", f"{declared_version()} EXACT", f"{major}"):
+        run(configures(scratch, f"asks {asked}", "C", f"find_package(sgt {asked} REQUIRED)\n"))
+    others = [f"{major}.{minor - 1}", f"{major}.{minor + 1}", f"{major + 1}.{minor}", f"{major}.{minor}.{patch + 1}"]
+    for asked in others:
+        came = refused(configures(scratch, f"asks {asked}", "NONE", f"find_package(sgt {asked} REQUIRED)\n"))
+        same(f"why {asked} is not found", True, f"requested version \"{asked}\"" in " ".join(came.split()))
+    return f"{len(others)} other versions are not found"
+
+
+def configures(scratch, name, language, lines):
+    """The command that configures a project of these lines, with the package that was installed."""
+    folder, prefix = scratch / name, scratch / "near" / "prefix"
+    folder.mkdir()
+    head = f"cmake_minimum_required(VERSION 3.10)\nproject(bank {language})\n"
+    (folder / "CMakeLists.txt").write_text(head + lines)
+    return ["cmake", "-S", folder, "-B", folder / "build", f"-DCMAKE_PREFIX_PATH={prefix}"]
 
 
 def declared_version():
     """Returns the version in the header, its only place."""
     lines = (BINDINGS / "sgt.h").read_text().splitlines()
     return next(line.split('"')[1] for line in lines if line.startswith("#define SGT_VERSION "))
+
+
+def minor_version():
+    """Returns its major and its minor number."""
+    return declared_version().rpartition(".")[0]
 
 
 def has_one_version(_):
@@ -224,6 +354,8 @@ def reports_the_story_by_cargo(scratch):
     os.utime(folder / "libsgt.a", (time.time() + 5, time.time() + 5))  # a library that has changed is linked anew
     reported = run(["cargo", "build", "--offline", "--verbose", "--example", "bank"], env=env, cwd=BINDINGS / "rust", also_errors=True)
     same("that a changed library is seen", True, "Dirty sgt-sys" in reported)
+    reported = run(["cargo", "test", "--offline", "--doc"], env=env, cwd=BINDINGS / "rust")
+    same("the program that does not compile", 1, len(re.findall(r"OwnTransaction .* compile fail \.\.\. ok", reported)))
     return None
 
 
@@ -272,13 +404,31 @@ def runs_the_programs_of_its_page(scratch):
     same("what the programs tell", ["80000\n", "paid 30\n", "1500\n", "80000\n", "paid 30\n", "COMMITTED 1500\n"], reported)
     if not shutil.which("rustc") or not (scratch / "libsgt.rlib").exists():
         return "but for those in Rust: no rustc here"
-    program = scratch / "page_rust"
-    words = ["rustc", "--edition", "2021", "-D", "warnings", "-L", f"native={OUT}", "-L", scratch, "--extern", "sgt", "-o", program]
-    for text in programs_of("rust", "fn main()"):
-        (scratch / "page.rs").write_text(text)
-        run([*words, scratch / "page.rs"])
-        same("what the program in Rust tells", "80000\n", run([program]))
+    texts = [text if "fn main()" in text else PARTS_IN_RUST % text for text in programs_of("rust", "let ")]
+    wanted = ["80000\n", "true Ok(Some(30))\n", "committed 1100\ntrue Ok(None)\n"]
+    same("what the programs in Rust tell", wanted, [told_in_rust(scratch, text) for text in texts])
     return None
+
+
+# A program of a part of the page, which may use `bank`, and may set `paid`.
+PARTS_IN_RUST = """fn main() -> Result<(), sgt::Error> {
+    let rows = [sgt::Row { table: 7, number: 1, value: 100 }];
+    let opening = r#"{"limits":[8,1000000,1],"accounts":[],"procedures":[]}"#;
+    let (bank, paid) = (sgt::SharedEngine::open_with(opening, &rows, sgt::Configuration::default())?, true);
+%s
+    println!("{paid} {:?}", bank.get(7, 2));
+    Ok(())
+}
+"""
+
+
+def told_in_rust(scratch, text):
+    """What a program in Rust writes."""
+    source, program = scratch / "page.rs", scratch / "page_rust"
+    source.write_text(text)
+    words = ["rustc", "--edition", "2021", "-D", "warnings", "-A", "unused_variables", "-L", f"native={OUT}"]
+    run([*words, "-L", scratch, "--extern", "sgt", "-o", program, source])
+    return run([program])
 
 
 def gives_each_reply_and_fault_its_text(_):
@@ -865,6 +1015,11 @@ CASES = [
     makes_the_library,
     has_one_version,
     names_each_flaw,
+    has_the_structs_and_calls_of_its_version,
+    has_the_structs_of_c_in_python,
+    has_the_structs_of_c_in_rust,
+    runs_the_commands_of_its_page,
+    builds_by_the_line_of_its_page_for_cargo,
     installs,
     is_found_by_pkg_config,
     is_found_by_cmake,
@@ -906,7 +1061,7 @@ CASES = [
 def main():
     if sys.argv[1:] not in ([], ["behind-ci"]):
         sys.exit(__doc__)
-    missing = [tool for tool in ("cc", "ld", "objcopy", "ar", "nm") if not shutil.which(tool)]
+    missing = [tool for tool in ("cc", "ld", "objcopy", "ar", "nm", "readelf") if not shutil.which(tool)]
     if missing:
         print(f"left out: no {', '.join(missing)} here")
         print("0 passed, 0 failed")

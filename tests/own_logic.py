@@ -7,9 +7,15 @@ It takes the library that `bindings/build` has made. Each case is reported, the 
 this machine, what was left out is reported.
 """
 
+import asyncio
+import concurrent.futures
+import copy
+import functools
 import os
 import pathlib
+import pickle
 import random
+import re
 import shutil
 import signal
 import sys
@@ -30,6 +36,7 @@ from helpers.library import (  # noqa: E402
     built,
     can,
     compiled,
+    refused,
     run,
 )
 from helpers.package import LONG, Interrupted, elsewhere, interrupted, interrupts, module, refusal, what  # noqa: E402
@@ -94,16 +101,48 @@ def commits_quits_and_throws_in_cpp(scratch):
     return None
 
 
-def rust_program(scratch, source):
-    """Builds a program in Rust with the crates of the library."""
+def refuses_bodies_that_replace_their_transaction_in_cpp(_):
+    """The compiler refuses each, and says why; it accepts the program without them."""
+    if not shutil.which("c++"):
+        return "left out: no c++ here"
+    source = C_SOURCES / "bodies_refused.cpp"
+    run(["c++", *CPP_FLAGS, "-fsyntax-only", source])
+    bodies = re.findall(r"^#elif BODY == (\d+) // (.+)$", source.read_text(), re.M)
+    for body, wanted in bodies:
+        came = refused(["c++", *CPP_FLAGS, "-fsyntax-only", f"-DBODY={body}", source])
+        same(f"why body {body} is refused", wanted, wanted if wanted in came else came)
+    return f"{len(bodies)} bodies"
+
+
+def refuses_bodies_that_replace_their_transaction_in_rust(scratch):
+    if not shutil.which("rustc"):
+        return "left out: no rustc here"
+    source, words = C_SOURCES / "bodies_refused.rs", rust_words(scratch)
+    words += ["--crate-type", "lib", "--emit", "metadata", "--out-dir", scratch, "-A", "unexpected_cfgs"]
+    run([*words, "--cfg", 'body="none"', source])
+    bodies = re.findall(r'^ +#\[cfg\(body = "(.+)"\)\] // (.+)$', source.read_text(), re.M)
+    for body, wanted in bodies:
+        came = refused([*words, "--cfg", f'body="{body}"', source])
+        is_so = f"error[{wanted}]" in came or f"error: {wanted}" in came
+        same(f"why a body that {body} is refused", wanted, wanted if is_so else came)
+    return f"{len(bodies)} bodies"
+
+
+def rust_words(scratch):
+    """Builds the crates of the library, and returns the words by which programs are built with them."""
     rust, find = BINDINGS / "rust", ["-L", f"native={OUT}", "-L", scratch]
     words = ["rustc", "--edition", "2021", "-O", "-D", "warnings"]
     if not (scratch / "libsgt.rlib").exists():
         lib = [*words, "--crate-type", "lib", "--out-dir", scratch]
         run([*lib, "--crate-name", "sgt_sys", *find, "-l", "static=sgt", rust / "sgt-sys" / "src" / "lib.rs"])
         run([*lib, "--crate-name", "sgt", *find, "--extern", "sgt_sys", rust / "src" / "lib.rs"])
+    return [*words, *find, "--extern", "sgt"]
+
+
+def rust_program(scratch, source):
+    """Builds a program in Rust with the crates of the library."""
     program = scratch / f"{source.stem}_rust"
-    run([*words, *find, "--extern", "sgt", "-o", program, source])
+    run([*rust_words(scratch), "-o", program, source])
     return program
 
 
@@ -278,8 +317,22 @@ def goes_on_after_its_commit(bank):
         t.write(TABLE, 101, 10)
 
 
+class Awaited:
+    """What can be awaited, and is of no type of the interpreter."""
+
+    def __await__(self):
+        return iter(())
+
+
+class Later:
+    """A callable whose call is async."""
+
+    async def __call__(self, t):
+        t.write(TABLE, 101, 9)
+
+
 def refuses_bodies_that_are_not_run_in_python(_):
-    """A body that is async or a generator would commit before it has run."""
+    """A body that is async or a generator would commit before it has run, and one that returns a future maybe, too."""
     sgt = module()
 
     async def later(t):
@@ -291,11 +344,97 @@ def refuses_bodies_that_are_not_run_in_python(_):
     async def both(t):
         yield t.write(TABLE, 101, 9)
 
+    def returns(result):
+        return lambda t: (t.write(TABLE, 101, 9), result)[1]
+
+    loop, heard = asyncio.new_event_loop(), []
+    task = loop.create_task(asyncio.sleep(0))
+    bodies = [later, one_by_one, both, Later(), functools.partial(later), lambda t: later(t)]
+    bodies += [lambda t: (t.read(TABLE, it) for it in RECORDS)]
+    bodies += [returns(result) for result in (loop.create_future(), task, Awaited(), concurrent.futures.Future())]
     with bank_of(sgt, ended=lambda ended: heard.append(ended)) as bank:
-        heard = []
-        for body in (later, one_by_one, both, lambda t: later(t)):
+        for body in bodies:
             same("what is told", True, "must not be async" in str(caught(TypeError, lambda body=body: bank.transact(body))))
         same("the records", ({101: 10, 102: 20, 103: 30}, [], []), (values(bank), bank.live(), heard))
+        awaits = lambda t: loop.run_until_complete(asyncio.sleep(0, t.read(TABLE, 101)))  # noqa: E731
+        same("a body that awaits meanwhile", 10, bank.transact(awaits))
+    loop.close()
+
+
+def refuses_copies_of_transactions_in_python(_):
+    """A copy could be committed where the transaction must not be, or abort it at its own end."""
+    sgt = module()
+    with sgt.SharedEngine(limits=(4, 1_000_000, 1), procedures=[[0, [["put", TABLE, 101, 7]]]]) as bank:
+
+        def body(t):
+            t.write(TABLE, 102, 20)
+            refuses_copies(t)
+
+        bank.transact(body)
+        with bank.transaction() as own:
+            own.write(TABLE, 103, 30)
+            refuses_copies(own)
+        with bank.transaction(5) as stepped:
+            refuses_copies(stepped)
+            while stepped.step().kind is not sgt.Kind.ENDED:
+                pass
+            stepped.commit()
+        same("what was committed all the same", {101: 7, 102: 20, 103: 30}, values(bank))
+
+
+def refuses_copies(one):
+    for how, words in ((copy.copy, "copied"), (copy.deepcopy, "copied"), (pickle.dumps, "pickled")):
+        same("what is told", f"sgt: a transaction can't be {words}", str(caught(TypeError, lambda how=how: how(one))))
+
+
+FOR_EVER = (None, float("inf"), 1e300, 10**400)
+NO_TIMEOUTS = (-1, -0.001, float("-inf"), float("nan"))
+
+
+def waits_for_ever_in_python(_):
+    """A timeout of infinity, or of centuries, is none: a call that would wait for its own thread says so. A negative
+    one is refused."""
+    sgt = module()
+    for timeout in FOR_EVER:
+        with bank_of(sgt, keeps_ended=True, cut_wait=0 if timeout is None else timeout) as bank:
+            same("a function", 10, bank.transact(lambda t: t.read(TABLE, 101), timeout=timeout))
+            same("what is drained", 1, len(bank.drain(timeout=timeout)))
+            bank.cut(timeout)
+            writer, reader = bank.transaction(timeout=timeout), bank.transaction()
+            writer.write(TABLE, 101, 11)
+            same("what was read", 11, reader.read(TABLE, 101))
+            reads = lambda: bank.transact(lambda t: t.read(TABLE, 101), timeout=timeout)  # noqa: E731
+            for call in (lambda: bank.cut(timeout), reads):
+                same("a call that waits for its own thread", "self", what(sgt.SelfWait, call, "self"))
+            same("a commit", "self", what(sgt.SelfWait, lambda: reader.commit(timeout), "self"))
+    heard = []
+    with bank_of(sgt, keeps_ended=True, ended=heard.append) as bank:
+        threading.Timer(0.05, lambda: bank.transact(lambda t: t.write(TABLE, 101, 1))).start()
+        same("what is waited for", 1, len(bank.drain(timeout=float("inf"))))
+        refuses_timeouts(sgt, bank)
+    same("how many were committed", 1, len(heard))
+
+
+def refuses_timeouts(sgt, bank):
+    """Each call with a timeout refuses what is no time, before it does anything."""
+    with bank.transaction() as own:
+        calls = [
+            lambda timeout: bank.run(0, 1, timeout=timeout),
+            lambda timeout: bank.transact(lambda t: t.write(TABLE, 101, 9), timeout=timeout),
+            lambda timeout: bank.transaction(timeout=timeout),
+            lambda timeout: bank.transaction(0, 1, timeout=timeout),
+            lambda timeout: own.commit(timeout),
+            bank.cut,
+            lambda timeout: bank.drain(timeout=timeout),
+            lambda timeout: bank_of(sgt, cut_wait=timeout),
+        ]
+        for timeout in NO_TIMEOUTS:
+            for call in calls:
+                why = caught(ValueError, lambda call=call, timeout=timeout: call(timeout))
+                same("what is told", True, f"that is not negative: {timeout}" in str(why))
+        same("who is live", [own.ticket], [live.ticket for live in bank.live()])
+        own.quit()
+    same("what was drained", [], bank.drain(timeout=0))
 
 
 def keeps_the_exception_of_a_block_in_python(_):
@@ -426,6 +565,177 @@ def is_called_for_commits_in_python(_):
         same("what the hook was told", (ticket, 1, sgt.EMPTY_PROCEDURE), (heard[0].ticket, heard[0].call.accesses, heard[0].call.procedure))
         same("what the hook raised", "raised", what(ZeroDivisionError, lambda: bank.transact(lambda t: t.write(TABLE, 101, 2)), "raised"))
         same("the record", 2, bank.get(TABLE, 101))
+
+
+class Disk:
+    """A hook before a cut, which raises while the disk is full, and notes each of its calls."""
+
+    def __init__(self, is_full=True):
+        self.is_full, self.asked = is_full, 0
+
+    def __call__(self, engine, part):
+        self.asked += 1
+        if self.is_full:
+            raise OSError("full disk")
+
+
+def makes_four_entries(t):
+    """So many that a cut is due where nobody is live any more, if one is due after four."""
+    for value in range(4):
+        t.write(TABLE, 101, value)
+
+
+def makes_four_entries_and_fails(t):
+    makes_four_entries(t)
+    raise KeyError
+
+
+def drops_one(bank):
+    makes_four_entries(bank.transaction())
+
+
+def quits_one(bank):
+    t = bank.transaction()
+    makes_four_entries(t)
+    t.quit()
+
+
+def leaves_a_block(bank):
+    with bank.transaction() as t:
+        makes_four_entries_and_fails(t)
+
+
+def raises_nothing_of_a_hook_where_it_aborts_in_python(_):
+    """An abort on the way out calls no hook: the exception of the body is raised, and a later call makes the cut that
+    is due."""
+    sgt, disk = module(), Disk()
+    fails = lambda bank: bank.transact(makes_four_entries_and_fails)  # noqa: E731
+    ways = [(fails, KeyError), (leaves_a_block, KeyError), (drops_one, None), (quits_one, None)]
+    with bank_of(sgt, cutting=disk, cut_after=4, keeps_ended=True) as bank:
+        for number, (way, error) in enumerate(ways):
+            same("how it ends", "raised" if error else None, what(error or (), lambda way=way: way(bank), "raised"))
+            same("that no hook was called", number, disk.asked)
+            same("what is drained meanwhile", ([], number), (bank.drain(timeout=0), disk.asked))
+            same("a later call", "full disk", what(OSError, lambda: bank.get(TABLE, 101), "full disk"))
+            same("the next one", (10, number + 1), (bank.get(TABLE, 101), disk.asked))
+        disk.is_full = False
+        bank.cut()
+        same("who is live, and how often the hook was asked", ([], len(ways) + 1), (bank.live(), disk.asked))
+
+
+def drains_all_whatever_a_hook_raises_in_python(_):
+    """What is stored is drained once, though the hook before a cut raises in each call that may cut."""
+    sgt, disk, drained = module(), Disk(), []
+    with bank_of(sgt, cutting=disk, cut_after=1, keeps_ended=True) as bank:
+        for value in range(8):
+            writes = lambda t, value=value: t.write(TABLE, 101, value)  # noqa: E731
+            same("a function", "full disk", str(caught(OSError, lambda writes=writes: bank.transact(writes))))
+            same("that it was carried out", value, bank.get(TABLE, 101))
+            drained += bank.drain(timeout=0) if value % 3 == 2 else []
+        drained += bank.drain(timeout=0)
+        disk.is_full = False
+    same("what was drained", list(range(8)), [ended.sequence for ended in drained])
+
+
+def is_aborted_in_its_access(bank, t):
+    """Reads what closes a cycle, so that nobody is live any more, and a cut is due."""
+    other = bank.transaction()
+    t.write(TABLE, 101, 5)
+    other.write(TABLE, 102, other.read(TABLE, 101) + 1)
+    return t.read(TABLE, 102)
+
+
+def passes_on_what_a_hook_raises_in_an_access_in_python(_):
+    """A body may catch what the hook before a cut raises in an access. If the access was aborted by a cycle, the body
+    is run again. A body that does not catch it is not: its call raises it."""
+    sgt, disk, tries = module(), Disk(), []
+
+    def body(t, catches):
+        tries.append(t.tries)
+        if t.tries == 1:
+            access = lambda: is_aborted_in_its_access(bank, t)  # noqa: E731
+            if not catches:
+                return access()
+            same("what the access raises", "full disk", str(caught(OSError, access)))
+            same("the next one", True, caught(sgt.Aborted, lambda: t.read(TABLE, 103)).is_conflict)
+            if catches == "raises":
+                raise ValueError
+        t.write(TABLE, 103, t.tries)
+        return t.tries
+
+    for catches in ("returns", "raises"):
+        with bank_of(sgt, cutting=disk, cut_after=4) as bank:
+            tries.clear()
+            came = bank.transact(functools.partial(body, catches=catches))
+            same(f"what came of a body that {catches}", (2, [1, 2], 2), (came, tries, bank.get(TABLE, 103)))
+    with bank_of(sgt, cutting=disk, cut_after=4) as bank:
+        tries.clear()
+        why = caught(OSError, lambda: bank.transact(functools.partial(body, catches=None)))
+        same("a body that does not catch it", "full disk", str(why))
+        same("its tries", ([1], {101: 10, 102: 20, 103: 30}, []), (tries, values(bank), bank.live()))
+
+
+def passes_on_what_both_hooks_raise_in_python(_):
+    """A call raises what each hook raised in it, and the next call nothing: one is the context of the other."""
+    sgt, disk, heard = module(), Disk(), []
+
+    def hook(ended):
+        heard.append(ended.sequence)
+        raise ZeroDivisionError
+
+    calls = [lambda bank: bank.transact(makes_four_entries), lambda bank: bank.run(5), commits_in_steps, commits_one]
+    hooks, writes = {"cutting": disk, "ended": hook}, [0, [["put", TABLE, 102, 7]] * 4]
+    with sgt.SharedEngine(limits=(4, 1_000_000, 1), procedures=[writes], cut_after=4, **hooks) as bank:
+        for number, call in enumerate(calls):
+            why = caught(ZeroDivisionError, lambda call=call: call(bank))
+            same("its context", "full disk", str(why.__context__))
+            same("the hooks", (list(range(number + 1)), number + 1), (heard, disk.asked))
+            same("the next call", [], bank.live())
+        same("the records", {101: 3, 102: 7}, values(bank))
+        disk.is_full = False
+
+
+def commits_one(bank):
+    with bank.transaction() as t:
+        makes_four_entries(t)
+
+
+def commits_in_steps(bank):
+    t = bank.transaction(5)
+    while t.step().kind.name != "ENDED":
+        pass
+    t.commit()
+
+
+def cuts_where_each_transaction_is_aborted_in_python(_):
+    """Where no call but aborts on the way out could make the cut that is due, the next start does."""
+    sgt, ended = module(), []
+    fails = lambda bank: what(KeyError, lambda: bank.transact(makes_four_entries_and_fails), ended.append(1))  # noqa: E731
+    for way in (drops_one, quits_one, lambda bank: what(KeyError, lambda: leaves_a_block(bank), None), fails):
+        with sgt.SharedEngine(limits=(4, 100, 1), cut_after=40) as bank:
+            for _ in range(1_000):
+                way(bank)
+            same("that the history is short", True, bank.entries() <= 40 and not bank.live())
+    same("how many functions failed", 1_000, len(ended))
+
+
+def starts_nothing_where_a_hook_raises_in_python(_):
+    """A start that waits for a cut makes it, and the hook raises: nothing stays live, and the body is not called."""
+    sgt, reported = module(), []
+    for starts in (lambda bank: bank.transact(lambda t: reported.append("called")), lambda bank: bank.transaction()):
+        disk = Disk()
+        with bank_of(sgt, cutting=disk, cut_after=4, cut_wait=LONG) as bank:
+            first = bank.transaction()
+            makes_four_entries(first)
+            begins = functools.partial(what, OSError, functools.partial(starts, bank), "full disk")
+            waiting = threading.Thread(target=lambda begins=begins: reported.append(begins()))
+            waiting.start()
+            waiting.join(0.1)
+            same("that the start waits", [], reported)
+            first.quit()
+            waiting.join()
+            same("what the start raises", (["full disk"], [], 1), (reported, bank.live(), disk.asked))
+            reported.clear()
 
 
 def ends_at_a_signal_in_python(_):
@@ -584,16 +894,26 @@ CASES = [
     threads_stay_within_their_memory,
     commits_quits_and_throws_in_cpp,
     commits_quits_and_panics_in_rust,
+    refuses_bodies_that_replace_their_transaction_in_cpp,
+    refuses_bodies_that_replace_their_transaction_in_rust,
     reads_writes_and_removes_in_python,
     answers_single_calls_in_python,
     says_why_in_python,
     reports_a_use_after_the_end_in_python,
     refuses_bodies_that_are_not_run_in_python,
+    refuses_copies_of_transactions_in_python,
+    waits_for_ever_in_python,
     keeps_the_exception_of_a_block_in_python,
     keeps_a_journal_of_ones_own_in_python,
     tries_again_in_python,
     runs_alone_at_last_in_python,
     is_called_for_commits_in_python,
+    raises_nothing_of_a_hook_where_it_aborts_in_python,
+    drains_all_whatever_a_hook_raises_in_python,
+    passes_on_what_a_hook_raises_in_an_access_in_python,
+    passes_on_what_both_hooks_raise_in_python,
+    cuts_where_each_transaction_is_aborted_in_python,
+    starts_nothing_where_a_hook_raises_in_python,
     ends_at_a_signal_in_python,
     leaves_nothing_live_at_signals,
     stops_at_ctrl_c,

@@ -26,6 +26,7 @@ from helpers.library import (  # noqa: E402
     SHARED,
     THREAD_SANITIZER,
     WRAPS,
+    WRAPS_CLOCK,
     WRAPS_LOCK,
     built,
     can,
@@ -37,7 +38,7 @@ THREADS, CALLS, FEW_CALLS, SANITIZED_CALLS = 16, 200_000, 40_000, 10_000
 STEPPED, FEW_STEPPED = 49, 1  # of 100 transactions
 MONEY = 5 * 200_000
 TURNS, IN_TURN = 20_000, 4  # runs that each of so many threads makes
-FUZZED_SECONDS = 30
+FUZZED_SECONDS = 30  # for each fuzzer
 LIMITS = '{"limits":[8,4000000000,1],"accounts":[%s],"procedures":[]}\n'
 ACCOUNTS = ",".join(f"[{n},{100 + n},100000,100000]" for n in range(5))
 
@@ -190,6 +191,8 @@ def sanitized(scratch, flags):
     run([built(scratch, compiler, C_FLAGS, C_SOURCES / "shared_calls.c", flags, [SHARED])])
     run([built(scratch, compiler, C_FLAGS, C_SOURCES / "shared_hazards.c", [*flags, *WRAPS_LOCK], [SHARED])])
     all_held(run([built(scratch, compiler, C_FLAGS, C_SOURCES / "shared_waits.c", flags, [SHARED]), 2]))
+    all_held(run([inside(scratch, compiler, "shared_rests.c", flags)]))
+    all_held(run([inside(scratch, compiler, "shared_leaves.c", flags)]))
     if compiler == "cc" and shutil.which("c++"):
         shared = compiled(scratch, "cc", C_FLAGS, SHARED, flags)
         run([built(scratch, "c++", CPP_FLAGS, C_SOURCES / "shared_hazards.cpp", flags, [shared])])
@@ -240,6 +243,24 @@ def goes_on_whatever_a_hook_throws(scratch):
     return all_held(run([built(scratch, "c++", CPP_FLAGS, C_SOURCES / "shared_hazards.cpp")]))
 
 
+def inside(scratch, compiler, source, flags=()):
+    """A program that is built with the source of the shared engine, and with exceptions of C++ if there is a compiler for them."""
+    if compiler != "cc" or not shutil.which("c++"):
+        return built(scratch, compiler, C_FLAGS, C_SOURCES / source, flags)
+    tests = compiled(scratch, "cc", C_FLAGS, C_SOURCES / source, [*flags, "-DWITH_CPP"])
+    return built(scratch, "c++", CPP_FLAGS, C_SOURCES / "shared_throws.cpp", [*flags, tests])
+
+
+def wakes_each_call_that_rests(scratch):
+    """Each alone, with a watch that ends what it waits for, is held up, interrupts it, does not return, or forks."""
+    return all_held(run([inside(scratch, "cc", "shared_rests.c")]))
+
+
+def gives_back_what_a_hook_leaves(scratch):
+    """Hooks that end their thread, jump, throw or fork, in each call that calls one; aborts on the way out and drains, which call none."""
+    return all_held(run([inside(scratch, "cc", "shared_leaves.c")]))
+
+
 def goes_on_where_each_allocation_is_refused(scratch):
     reported = run([built(scratch, "cc", C_FLAGS, C_SOURCES / "shared_refused.c", WRAPS)])
     count = int(reported.split()[2])
@@ -247,23 +268,30 @@ def goes_on_where_each_allocation_is_refused(scratch):
     return f"{count} allocations"
 
 
-def keeps_its_word_whatever_is_called(scratch):
+def fuzzed(scratch, source, seconds, flags=(), beside=()):
     """Calls that a fuzzer draws, or, without one, calls drawn at random for as long."""
-    source = C_SOURCES / "shared_fuzz.c"
     have = [name for name in ("clang", "clang-14") if shutil.which(name)]
     compiler = next((name for name in have if can(scratch, name, FUZZER, NO_TARGET, ["-runs=1"])), None)
-    if compiler:
-        program = built(scratch, compiler, C_FLAGS, source, FUZZER, [SHARED])
-        corpus = scratch / "corpus"
-        corpus.mkdir()
-        for seed in range(4):  # long inputs to begin with, so that engines grow full and histories long
-            (corpus / f"seed{seed}").write_bytes(random.Random(seed).randbytes(2048))
-        words = [f"-max_total_time={FUZZED_SECONDS}", "-max_len=4096", "-len_control=0", "-seed=1", "-print_final_stats=1"]
-        reported = run([program, *words, corpus], also_errors=True, cwd=scratch)
-        count = next(line.split()[-1] for line in reported.splitlines() if line.startswith("stat::number_of_executed_units"))
-        return f"{compiler}: {count} inputs in {FUZZED_SECONDS} s, {len(list(corpus.iterdir()))} kept"
-    reported = run([built(scratch, "cc", C_FLAGS, source, ["-DDRAWN"]), FUZZED_SECONDS])
-    return f"drawn, as no compiler here has a fuzzer: {reported.strip()}"
+    if not compiler:
+        reported = run([built(scratch, "cc", C_FLAGS, C_SOURCES / source, ["-DDRAWN", *flags]), seconds])
+        return f"drawn, as no compiler here has a fuzzer: {reported.strip()}"
+    program = built(scratch, compiler, C_FLAGS, C_SOURCES / source, [*FUZZER, *flags], beside)
+    corpus = pathlib.Path(tempfile.mkdtemp(dir=scratch))
+    for seed in range(4):  # long inputs to begin with, so that engines grow full and histories long
+        (corpus / f"seed{seed}").write_bytes(random.Random(seed).randbytes(2048))
+    words = [f"-max_total_time={seconds}", "-max_len=4096", "-len_control=0", "-seed=1", "-print_final_stats=1"]
+    reported = run([program, *words, corpus], also_errors=True, cwd=scratch)
+    count = next(line.split()[-1] for line in reported.splitlines() if line.startswith("stat::number_of_executed_units"))
+    return f"{compiler}: {count} inputs in {seconds} s, {len(list(corpus.iterdir()))} kept"
+
+
+def keeps_its_word_whatever_is_called(scratch):
+    return fuzzed(scratch, "shared_fuzz.c", FUZZED_SECONDS, beside=[SHARED])
+
+
+def leaves_nothing_whatever_does_not_return(scratch):
+    """The same with hooks, a watch and bodies that jump, make calls, abandon and interrupt."""
+    return fuzzed(scratch, "shared_fuzz_left.c", FUZZED_SECONDS, WRAPS_CLOCK)
 
 
 CASES = [
@@ -271,6 +299,8 @@ CASES = [
     reports_who_would_wait_for_itself,
     goes_on_whatever_a_thread_does,
     goes_on_whatever_a_hook_throws,
+    wakes_each_call_that_rests,
+    gives_back_what_a_hook_leaves,
     threads_get_the_replies_of_the_history,
     threads_run_without_steps,
     threads_run_beside_few_steps,
@@ -279,6 +309,7 @@ CASES = [
     threads_stay_within_their_memory,
     goes_on_where_each_allocation_is_refused,
     keeps_its_word_whatever_is_called,
+    leaves_nothing_whatever_does_not_return,
 ]
 
 

@@ -52,7 +52,7 @@ struct lock {
 /* What threads rest for until it is announced. */
 struct event {
     pthread_cond_t announced;
-    uint64_t count;          /* how often it was */
+    uint64_t count;          /* how often it was, also where nobody rested for it */
     uint32_t resting;        /* threads that rest for it */
     uint32_t waking;         /* those of them to whom it was announced, so that they sleep for the lock */
 };
@@ -235,13 +235,16 @@ static bool doze(struct lock *l, struct event *event, int64_t until)
     return !failed;
 }
 
-/* Wakes all who rest for the event. From now on they sleep for the lock. */
+/*
+ * Wakes all who rest for the event. From now on they sleep for the lock. It is counted in each case: a thread that is
+ * asked whether it is interrupted does not rest meanwhile, and sees by the count that it has to look again.
+ */
 static void announce(struct lock *l, struct event *event)
 {
+    event->count++;
     if (event->resting == event->waking) return;
     atomic_fetch_add_explicit(&l->asleep, event->resting - event->waking, memory_order_relaxed);
     event->waking = event->resting;
-    event->count++;
     pthread_cond_broadcast(&event->announced);
 }
 

@@ -110,10 +110,10 @@ static sgt_shared *made(const sgt_shared_config *config, const sgt_engine *engin
  */
 static bool is_used(const sgt_shared *s) { return s->changed.resting > 0 || s->asked > 0; }
 
-/* Closes it, unless it is closed already, or used. */
-static uint32_t shut(sgt_shared *s)
+/* Closes the engine with this number, unless it is closed already, or used. */
+static uint32_t shut(sgt_shared *s, uint64_t number)
 {
-    if (!s->is_open) return SGT_CLOSED;
+    if (!s->is_open || s->number != number) return SGT_CLOSED;
     if (is_used(s)) return SGT_BUSY;
     s->is_open = false;
     announce(&s->lock, &s->queued);

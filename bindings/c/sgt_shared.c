@@ -6,8 +6,10 @@
  * wakes, calls back, or needs to know threads:
  *
  *   sgt_lock.h      the lock, with its line, and sleeping
- *   sgt_state.h     what an engine holds here; deadlines, and how a thread rests
+ *   sgt_guard.h     calls of functions of the program that may not return
+ *   sgt_state.h     what an engine holds here; deadlines
  *   sgt_entering.h  entering and leaving; forks, hooks and calls from inside hooks
+ *   sgt_resting.h   how a thread rests, and is asked whether it is interrupted
  *   sgt_owners.h    which thread a transaction is of, and why it rests
  *   sgt_turns.h     the turns of a call; the calls that are stored until they are drained
  *   sgt_cuts.h      turns of a cut, and the cuts that the configuration asks for
@@ -57,8 +59,9 @@ uint32_t sgt_shared_close(sgt_shared **shared)
     sgt_shared *s = shared ? *shared : 0;
     if (!s) return SGT_CLOSED;
     if (is_in_hook(s) || is_in_child(s)) return SGT_MISUSE;
+    const uint64_t number = s->number;
     if (!lock_to_close(&s->lock)) return SGT_BUSY;
-    const uint32_t status = shut(s);
+    const uint32_t status = shut(s, number);
     unlock(s);
     if (status == SGT_OK) set_aside(s), *shared = 0;
     return status;
@@ -80,7 +83,6 @@ uint32_t sgt_shared_run(sgt_shared *shared, uint64_t procedure, const int64_t *a
     uint32_t status = enter(shared);
     if (status != SGT_OK) return status;
     status = run(shared, &it, &until, &asked, outcome);
-    outcome->tries = (uint32_t)asked.tries;
     if (status == SGT_OK && asked.has_ticket) outcome->ticket = (sgt_ticket){shared->number, asked.part, asked.tid, 0};
     return leave(shared, status);
 }
@@ -153,7 +155,7 @@ uint32_t sgt_shared_abandon(sgt_shared *shared, const sgt_ticket *ticket)
 {
     if (!shared || !ticket || is_in_child(shared) || !is_in_hook(shared)) {
         const uint32_t status = enter_for(shared, ticket);
-        return status == SGT_OK ? leave(shared, abandon(shared, ticket)) : status;
+        return status == SGT_OK ? leave_cut(shared, abandon(shared, ticket)) : status;
     }
     if (ticket->engine != shared->number) return SGT_MISUSE;
     if (ticket->part != shared->part) return SGT_STALE;
@@ -225,14 +227,10 @@ uint32_t sgt_transaction_commit(sgt_transaction *transaction, int64_t wait_ns)
 
 uint32_t sgt_transaction_quit(sgt_transaction *transaction)
 {
-    sgt_reply reply = {0};
     if (!is_made(transaction) || transaction->tries == 0) return SGT_BAD_CALL;
     if (!transaction->is_live) return transaction->status;
-    const uint32_t status = sgt_shared_quit(transaction->shared, &transaction->ticket, &reply);
-    if (status == SGT_STALE) return end_cut_off(transaction);
-    if (status != SGT_OK) return status;
-    transaction->reply = reply;
-    return end_try(transaction);
+    const uint32_t status = enter_for(transaction->shared, &transaction->ticket);
+    return status == SGT_OK ? leave_cut(transaction->shared, quit_try(transaction->shared, transaction)) : status;
 }
 
 uint32_t sgt_shared_transact(sgt_shared *shared, sgt_body body, void *context, const sgt_transact_options *options,
@@ -241,16 +239,12 @@ uint32_t sgt_shared_transact(sgt_shared *shared, sgt_body body, void *context, c
     static const sgt_transact_options plain = SGT_TRANSACT_OPTIONS;
     if (!options) options = &plain;
     if (!body || !outcome || outcome->size < sizeof *outcome || options->size < sizeof *options) return SGT_BAD_CALL;
-    struct deadline until = deadline_in(options->wait_ns);
-    sgt_transaction t = SGT_TRANSACTION;
-    uint32_t status = SGT_OK;
-    do {
-        status = next_try(shared, &t, options->tries, &until);
-        if (status == SGT_OK && t.is_live) status = end_as_reported(&t, call(body, context, &t), &until);
-    } while (status == SGT_UNDONE);
-    outcome->tries = t.tries, outcome->waits = t.waits;
-    if (status == SGT_OK) outcome->ticket = t.ticket, outcome->sequence = t.sequence, outcome->reply = t.reply;
-    return status;
+    struct transact it = {.shared = shared, .body = body, .context = context, .beside = options->tries, .outcome = outcome};
+    it.until = deadline_in(options->wait_ns);
+    it.transaction = (sgt_transaction)SGT_TRANSACTION;
+    call_guarded(make_tries, tell, &it);
+    tell(&it);
+    return it.status;
 }
 
 /* The rest */
@@ -262,7 +256,7 @@ uint32_t sgt_shared_cut(sgt_shared *shared, int64_t wait_ns)
     uint32_t late = SGT_TIMED_OUT;
     uint32_t status = enter(shared);
     if (status != SGT_OK) return status;
-    while ((status = cut_turn(shared, &ask)) == SGT_REST) late = sleep_for(shared, &ask, &until);
+    while (late != SGT_MISUSE && (status = cut_turn(shared, &ask, &until)) == SGT_REST) late = sleep_for(shared, &ask, &until);
     return leave(shared, status == SGT_TIMED_OUT ? late : status);
 }
 
@@ -302,12 +296,16 @@ uint32_t sgt_shared_entries(sgt_shared *shared, uint64_t *count, uint64_t *part)
     return leave(shared, SGT_OK);
 }
 
-/* Waits for a call to drain. SGT_CLOSED. */
+/* Waits for a call to drain. SGT_CLOSED; SGT_MISUSE in a child. */
 static uint32_t await_queued(sgt_shared *s, struct deadline *until)
 {
     bool in_time = true;
     atomic_fetch_add(&s->draining, 1);
-    while (s->is_open && s->queue.count == 0 && in_time) in_time = rest(s, &s->queued, until);
+    until->drains = true;
+    while (s->is_open && s->queue.count == 0 && in_time) {
+        in_time = rest(s, &s->queued, until);
+        if (is_in_child(s)) return SGT_MISUSE;
+    }
     const bool is_open = s->is_open;
     atomic_fetch_sub(&s->draining, 1);
     return is_open ? SGT_OK : SGT_CLOSED;
@@ -319,14 +317,15 @@ uint32_t sgt_shared_drain(sgt_shared *shared, int64_t wait_ns, sgt_ended *ended,
     uint32_t status = count && ended && capacity > 0 ? enter(shared) : (uint32_t)SGT_BAD_CALL;
     if (status != SGT_OK) return status;
     if (!shared->config.keeps_ended) return leave(shared, SGT_BAD_CALL);
-    if (await_queued(shared, &until) != SGT_OK) return leave_closed(shared);
+    status = await_queued(shared, &until);
+    if (status != SGT_OK) return leave_quietly(shared, status);
     struct queue *queue = &shared->queue;
     const size_t taken = queue->count < capacity ? queue->count : capacity;
     if (taken > 0) memcpy(ended, queue->at + queue->first, taken * sizeof *ended);
     queue->count -= taken;
     queue->first = queue->count > 0 ? queue->first + taken : 0;
     *count = taken;
-    return leave(shared, SGT_OK);
+    return leave_quietly(shared, SGT_OK); /* a hook that does not return would lose what was taken */
 }
 
 void sgt_shared_watch(uint32_t (*interrupted)(void *context), void *context)

@@ -24,7 +24,7 @@
  *   SGT_TIMED_OUT  the deadline came
  *   SGT_STALE      the ticket is of a part of the history that was cut off: its transaction has ended
  *   SGT_MISUSE     a call from inside a hook of the same engine, a ticket of another engine, a call in a forked child, an access of an
- *                  sgt_transaction that its own caller has ended, or a commit by a body
+ *                  sgt_transaction that its own caller has ended, a commit by a body, or another transaction in the place of a body's
  *   SGT_UNDONE     the transaction of an sgt_transaction was aborted by a conflict: leave the body, and it is tried again
  *
  * Unless a call says otherwise, it changes and writes nothing if its status is not SGT_OK. SGT_CLOSED is returned if the engine is a
@@ -38,7 +38,14 @@
  * end that transaction.
  *
  * CANCELLATION. No call is a cancellation point: a thread that is cancelled in a call goes on until it has returned. No call may be made
- * from a thread whose cancellation is asynchronous, from a signal handler, or by a hook that longjmp leaves.
+ * from a thread whose cancellation is asynchronous, or from a signal handler.
+ *
+ * FUNCTIONS THAT DO NOT RETURN. A hook, a watch or a body may throw an exception, if its language has them, or end its
+ * thread. With glibc it may leave by longjmp, too; with another C library it must not. The lock is then released, and
+ * nothing that the call holds is left.
+ *
+ * FORKS. Each call of a child is SGT_MISUSE on an engine that was opened before the fork. A child that a hook or a
+ * watch forks returns from that into a call: it ends at once, with SGT_MISUSE, and does nothing more.
  */
 #ifndef SGT_SHARED_H
 #define SGT_SHARED_H
@@ -95,8 +102,10 @@ typedef struct sgt_live {
  * sgt_shared_abandon, sgt_shared_accesses and sgt_shared_allow_cut. A hook may call another engine. If hooks of that one call back, so that each waits for the
  * other, one of the calls is SGT_MISUSE.
  *
- * A hook of another language may throw an exception, or end its thread: the lock is released, and the exception reaches whoever made the
- * call, which has been carried out. If the exception is that of `cutting`, there is no cut.
+ * What a hook throws reaches whoever made the call. The call has been carried out then, and has written what it writes:
+ * but if `cutting` throws, there is no cut, and the next one is put off. One case is different: a call that starts a
+ * transaction first makes a cut that is due, if it waits for that, or if an abort that calls no hook has left it. If
+ * `cutting` throws there, nothing was started, and no try of the call is live.
  */
 typedef struct sgt_shared_config {
     size_t size;        /* sizeof(sgt_shared_config) */
@@ -261,11 +270,13 @@ uint32_t sgt_shared_run(sgt_shared *shared, uint64_t procedure, const int64_t *a
  * noticed, the body is run again. What the body returns after a conflict does not matter. So SGT_OK alone does not say that it is
  * committed.
  *
- * With each other status, nothing is left live, and the tries and waits are written, and no more: SGT_TIMED_OUT if the deadline comes,
- * which does not interrupt the body; SGT_SELF_WAIT; SGT_NO_MEMORY; SGT_CLOSED; SGT_BAD_CALL if a size is too small, or the body returns
- * another number: a status, say. If an access of the body failed, nothing is committed, whatever it returns, and the status is that of this
- * access. A body must not commit its transaction itself: such a call is SGT_MISUSE, and so counts as an access that failed. If the body
- * aborts it itself, it is as if it returned SGT_BODY_QUIT.
+ * With each other status, nothing is left live, and the tries and waits are written, and no more: SGT_TIMED_OUT if the
+ * deadline comes, which does not interrupt the body; SGT_SELF_WAIT; SGT_NO_MEMORY; SGT_CLOSED; SGT_BAD_CALL if a size
+ * is too small, or the body returns another number: a status, say. If an access of the body failed, nothing is
+ * committed, whatever it returns, and the status is that of this access. A body must not commit its transaction itself:
+ * such a call is SGT_MISUSE, and so counts as an access that failed. If the body aborts it itself, it is as if it
+ * returned SGT_BODY_QUIT. If its sgt_transaction names another transaction when it returns, the call is SGT_MISUSE, and
+ * both are aborted.
  *
  * A body may be left by an exception, by the end of its thread, and, with glibc, by longjmp: then its transaction is aborted. With another
  * C library, it stays live after a longjmp.
@@ -307,7 +318,10 @@ uint32_t sgt_shared_try(sgt_shared *shared, sgt_transaction *transaction, const 
  */
 uint32_t sgt_transaction_commit(sgt_transaction *transaction, int64_t wait_ns);
 
-/* Aborts it. SGT_UNDONE if it had been aborted by a conflict before; SGT_BAD_CALL if it was not started. */
+/*
+ * Aborts it. It calls no hook: a cut that is due is left to a later call. SGT_UNDONE if it had been aborted by a
+ * conflict before; SGT_BAD_CALL if it was not started.
+ */
 uint32_t sgt_transaction_quit(sgt_transaction *transaction);
 
 /*
@@ -345,6 +359,9 @@ uint32_t sgt_shared_quit(sgt_shared *shared, const sgt_ticket *ticket, sgt_reply
 /*
  * Aborts a transaction that is not needed any more, for destructors: as sgt_shared_quit does, or, from inside a hook of the same engine, as
  * soon as the hook has returned. Nothing is done if it has ended. SGT_STALE.
+ *
+ * It calls no hook, so nothing is thrown: a cut that is due is left to a later call. So is that of a transaction
+ * function that is left.
  */
 uint32_t sgt_shared_abandon(sgt_shared *shared, const sgt_ticket *ticket);
 
@@ -389,15 +406,20 @@ uint32_t sgt_shared_entries(sgt_shared *shared, uint64_t *count, uint64_t *part)
  * and how many these are to `count`. If there is none it waits for one; `count` is 0 if none has come by the deadline. SGT_CLOSED if the
  * engine is closed meanwhile: so a thread that drains without a deadline can be ended.
  *
- * Each call is handed out once. Threads that drain at the same time get different calls, so order them by `sequence`. SGT_BAD_CALL also
- * if `keeps_ended` is not 1.
+ * Each call is handed out once. Threads that drain at the same time get different calls, so order them by `sequence`.
+ * It calls no hook, so that nothing that was taken is lost: a cut that is due is left to a later call. SGT_BAD_CALL
+ * also if `keeps_ended` is not 1.
  */
 uint32_t sgt_shared_drain(sgt_shared *shared, int64_t wait_ns, sgt_ended *ended, size_t capacity, uint64_t *count);
 
 /*
- * Lets calls of this thread be interrupted while they wait for a transaction, a cut or a call to drain. `interrupted` is called ten times a
- * second then, on this thread and without the lock. If it returns 1, the call ends as if its deadline had come. It must return, and the
- * calls that it makes are not interrupted. Null: no more.
+ * Lets calls of this thread be interrupted while they wait for a transaction, a cut or a call to drain. `interrupted`
+ * is called ten times a second then, on this thread and without the lock. If it returns 1, the call ends as if its
+ * deadline had come. Null: no more.
+ *
+ * The calls that it makes are not interrupted. If the call that waits is made by a hook, they are SGT_MISUSE. A thread
+ * that is cancelled in it goes on. If it does not return, the call ends as if its deadline had come, but commits
+ * nothing.
  */
 void sgt_shared_watch(uint32_t (*interrupted)(void *context), void *context);
 

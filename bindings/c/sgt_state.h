@@ -1,5 +1,6 @@
 /*
- * What a shared engine holds in C, and how its threads rest. See sgt_shared.c, the only user of this file and of those below it.
+ * What a shared engine holds in C, and a call that may rest. See sgt_shared.c, the only user of this file and of those
+ * below it.
  */
 #ifndef SGT_STATE_H
 #define SGT_STATE_H
@@ -15,10 +16,20 @@ enum {
     WATCH = 100000000 /* nanoseconds between two questions to a thread that waits, whether it is interrupted: as often as a person notices */
 };
 
+/*
+ * Until when a call may rest, and what it holds meanwhile: it gives that back itself, or give_up does if a hook or a
+ * watch does not return.
+ */
 struct deadline {
     bool never, at_once;
-    bool is_over; /* whether the call ends now, since its thread was interrupted */
+    bool is_over;    /* whether the call ends now, since its thread was interrupted */
     int64_t at;
+    int64_t look;    /* when its thread is asked next whether it is interrupted. 0: it has not rested yet */
+    bool is_alone;   /* whether it is counted among those that wait to start a try alone */
+    bool is_cut;     /* among the cuts that rest without a deadline */
+    bool drains;     /* among the threads that wait for a call to drain */
+    bool aborts;     /* whether the transaction that it commits ends with it */
+    sgt_ask *ask;    /* what the desk counts of it, while it rests, or null */
 };
 
 /* The calls that ended and were not drained yet: `count` of them, from `first` on. */
@@ -50,6 +61,7 @@ struct sgt_shared {
     bool abandons;               /* whether a live transaction is abandoned */
     bool allows_cut;             /* whether the hook before a cut has not refused it */
     uint64_t before_cut;         /* so many turns at least have to be made before the plan's next cut is due */
+    bool is_cut_left;            /* whether an abort that calls no hook has left a cut that may be due */
     struct queue queue;
     sgt_ended ended;
     sgt_shared *next;            /* of those that are closed */
@@ -97,34 +109,5 @@ static inline sgt_ask asked_until(const struct deadline *until)
 
 /* The time for a turn, if the call has a deadline. */
 static inline uint64_t time_for(const sgt_ask *ask) { return ask->until == SGT_UNTIL ? (uint64_t)now() : 0; }
-
-/* Resting */
-
-/* Asks this thread without the lock, whether it is interrupted. */
-static bool is_interrupted(sgt_shared *s)
-{
-    s->asked++;
-    unlock(s);
-    watch.is_asking = true;
-    const bool is_over = watch.interrupted(watch.context) != 0;
-    watch.is_asking = false;
-    lock(s);
-    s->asked--;
-    return is_over;
-}
-
-/* Releases the lock until the event is announced. Whether the deadline has not come, and the thread is not interrupted. */
-static bool rest(sgt_shared *s, struct event *event, struct deadline *until)
-{
-    const uint64_t count = event->count;
-    while (!until->is_over && watch.interrupted && !watch.is_asking) {
-        const int64_t look = in_ns(WATCH);
-        if (until->at < look) break;
-        if (doze(&s->lock, event, look)) return true;
-        until->is_over = is_interrupted(s);
-        if (event->count != count) return true;
-    }
-    return !until->is_over && doze(&s->lock, event, until->at);
-}
 
 #endif

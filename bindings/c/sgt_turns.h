@@ -8,6 +8,7 @@
 #include <string.h>
 
 #include "sgt_owners.h"
+#include "sgt_resting.h"
 
 /* Calls that ended */
 
@@ -111,9 +112,63 @@ static void quit_abandoned(sgt_shared *s)
 
 /* Calls that may rest */
 
+/* Notes of a call that it rests. */
+static void begin_rest(sgt_shared *s, sgt_ask *ask, struct deadline *until)
+{
+    sgt_note *it = ask->reason == SGT_WAITS_TURN ? find(s, ask->turn) : 0;
+    if (it) it->waits = true;
+    until->ask = ask;
+    until->is_cut = until->never && ask->reason == SGT_IS_BUSY;
+    s->cuts += until->is_cut;
+}
+
+/* Notes that it does not any more. */
+static void end_rest(sgt_shared *s, struct deadline *until)
+{
+    sgt_note *it = until->ask->reason == SGT_WAITS_TURN ? find(s, until->ask->turn) : 0;
+    if (it) it->waits = false;
+    s->cuts -= until->is_cut;
+    until->is_cut = false;
+    until->ask = 0;
+    if (until->never) note_rest(s, 0, 0);
+}
+
+/* Counts a call no longer among those that wait to start a try alone. */
+static void wait_alone_no_longer(sgt_shared *s, struct deadline *until)
+{
+    until->is_alone = false;
+    if (--s->solo.waiting == 0) wake_all(s);
+}
+
+/*
+ * Has the desk count a call no longer, whose thread does not come back. Nothing is committed: no transaction is of the
+ * next part.
+ */
+static void leave_desk(sgt_shared *s, sgt_ask *ask)
+{
+    uint32_t wakes = 0;
+    sgt_reply reply = {0};
+    if (ask->reason == SGT_IS_BUSY) sgt_desk_leave(&s->desk, ask, &wakes);
+    if (ask->reason == SGT_WAITS_TURN) sgt_desk_commit(&s->engine, &s->desk, ask, s->part + 1, ask->turn, 0, &reply, &wakes);
+    if (wakes) wake_all(s);
+}
+
+static void give_up(sgt_shared *s, struct deadline *until)
+{
+    sgt_ask *ask = until->ask;
+    if (until->is_alone) wait_alone_no_longer(s, until);
+    if (until->drains) atomic_fetch_sub(&s->draining, 1);
+    if (!ask) return;
+    const bool aborts = until->aborts && ask->reason == SGT_WAITS_TURN;
+    const sgt_ticket ticket = ticket_of(s, ask->turn);
+    end_rest(s, until);
+    leave_desk(s, ask);
+    if (aborts) abandon(s, &ticket);
+}
+
 /*
  * Has the thread sleep for the reason for which its call rests. If it is interrupted, or would wait for itself, the next turn is the last
- * one, and the status says why.
+ * one, and the status says why. SGT_MISUSE in a child that was forked meanwhile: there is no next turn.
  */
 static uint32_t sleep_for(sgt_shared *s, sgt_ask *ask, struct deadline *until)
 {
@@ -121,15 +176,10 @@ static uint32_t sleep_for(sgt_shared *s, sgt_ask *ask, struct deadline *until)
         ask->until = SGT_AT_ONCE;
         return SGT_SELF_WAIT;
     }
-    const bool is_cut = until->never && ask->reason == SGT_IS_BUSY, commits = ask->reason == SGT_WAITS_TURN;
-    sgt_note *it = commits ? find(s, ask->turn) : 0;
-    if (it) it->waits = true;
-    s->cuts += is_cut;
+    begin_rest(s, ask, until);
     rest(s, &s->changed, until);
-    s->cuts -= is_cut;
-    it = commits ? find(s, ask->turn) : 0;
-    if (it) it->waits = false;
-    if (until->never) note_rest(s, 0, 0);
+    if (is_in_child(s)) return SGT_MISUSE;
+    end_rest(s, until);
     if (until->is_over) ask->until = SGT_AT_ONCE;
     return SGT_TIMED_OUT;
 }
@@ -143,7 +193,7 @@ static bool rests_anew(const sgt_ask *ask, sgt_ask *before)
     return is_new;
 }
 
-/* Commits a transaction. The status is that of the last turn, or SGT_SELF_WAIT. */
+/* Commits a transaction. The status is that of the last turn, or SGT_SELF_WAIT; SGT_MISUSE in a child. */
 static uint32_t commit(sgt_shared *s, const sgt_ticket *ticket, struct deadline *until, sgt_reply *reply, uint32_t *waits)
 {
     uint32_t late = SGT_TIMED_OUT;
@@ -159,6 +209,7 @@ static uint32_t commit(sgt_shared *s, const sgt_ticket *ticket, struct deadline 
         if (turn != SGT_REST) return turn == SGT_TIMED_OUT ? late : turn;
         if (rests_anew(&ask, &before)) ++*waits;
         late = sleep_for(s, &ask, until);
+        if (late == SGT_MISUSE) return late;
     }
 }
 

@@ -8,6 +8,7 @@
 #include <cstddef>
 #include <cstdint>
 #include <cstdlib>
+#include <exception>
 #include <functional>
 #include <initializer_list>
 #include <iterator>
@@ -452,8 +453,10 @@ private:
 // How long a call may wait. std::nullopt: without a limit.
 using Wait = std::optional<std::chrono::nanoseconds>;
 
-// The configuration of a shared engine: see sgt_shared_config. What a hook throws is thrown by the call in which it was called; that call
-// has been carried out. If `cutting` throws there is no cut.
+// The configuration of a shared engine: see sgt_shared_config. What a hook throws is thrown by the call in which it was
+// called. That call has been carried out, with one exception: if `cutting` throws there is no cut, and a call that was
+// to cut before it starts a transaction has started nothing. A destructor, OwnTransaction::quit and a drain call no
+// hook: a cut that is due is left to a later call.
 struct Configuration {
     std::function<void(const sgt_ended &)> ended;
     std::function<void(sgt_engine *, std::uint64_t part)> cutting;
@@ -476,32 +479,15 @@ struct TransactLimits {
 
 class SharedEngine;
 
-// A transaction whose accesses you decide, of `SharedEngine::begin` or `SharedEngine::transact`. Its destructor aborts it, unless it has
-// ended before. It must not outlive the engine. What it reads may be uncommitted, and be undone afterwards: so act on it only after the
-// commit. Each call throws Aborted if it has been aborted, std::invalid_argument if a number is out of range, or std::bad_alloc; and
-// std::logic_error (SGT_MISUSE) if you have committed or aborted it before. A body must not commit it: std::logic_error, too.
-class [[nodiscard]] OwnTransaction {
+// A transaction whose accesses you decide: that of the body of `SharedEngine::transact`, which commits it, or the base
+// of a BegunTransaction. It can be neither copied, moved nor assigned, so a body cannot put another one in its place.
+// What it reads may be uncommitted, and be undone afterwards: so act on it only after the commit. Each call throws
+// Aborted if it has been aborted, std::invalid_argument if a number is out of range, or std::bad_alloc; and
+// std::logic_error (SGT_MISUSE) if you have committed or aborted it before.
+class OwnTransaction {
 public:
-    OwnTransaction(OwnTransaction &&other) noexcept : shared(other.shared), reported(other.reported), is_in_body(other.is_in_body)
-    {
-        other.reported.is_live = 0;
-    }
-
-    OwnTransaction &operator=(OwnTransaction &&other) noexcept
-    {
-        std::swap(shared, other.shared);
-        std::swap(reported, other.reported);
-        std::swap(is_in_body, other.is_in_body);
-        return *this;
-    }
-
     OwnTransaction(const OwnTransaction &) = delete;
     OwnTransaction &operator=(const OwnTransaction &) = delete;
-
-    ~OwnTransaction()
-    {
-        if (reported.is_live) sgt_shared_abandon(shared, &reported.ticket); // also inside a hook of the engine
-    }
 
     // Identifies the last try: once it is committed, that of its `sgt_ended`.
     [[nodiscard]] const sgt_ticket &ticket() const { return reported.ticket; }
@@ -513,23 +499,22 @@ public:
     [[nodiscard]] std::optional<std::int64_t> read(std::uint64_t table, std::int64_t number)
     {
         std::int64_t value = 0;
-        auto status = sgt_transaction_read(&reported, table, number, &value);
+        auto status = made([&] { return sgt_transaction_read(&reported, table, number, &value); });
         if (status == SGT_NONE) return std::nullopt;
         check(status);
         return value;
     }
 
     // Writes a record.
-    void write(std::uint64_t table, std::int64_t number, std::int64_t value) { check(sgt_transaction_write(&reported, table, number, value)); }
+    void write(std::uint64_t table, std::int64_t number, std::int64_t value)
+    {
+        check(made([&] { return sgt_transaction_write(&reported, table, number, value); }));
+    }
 
     // Removes a record. Does nothing if there is none.
-    void remove(std::uint64_t table, std::int64_t number) { check(sgt_transaction_remove(&reported, table, number)); }
-
-    // Commits it, and waits for its predecessors. Throws TimedOut if the deadline comes first, or SelfWait; then it was aborted.
-    void commit(Wait wait = std::nullopt)
+    void remove(std::uint64_t table, std::int64_t number)
     {
-        if (is_in_body) throw std::logic_error("sgt: a body must not commit its transaction: transact does when it returns");
-        if (!is_committed(wait)) throw aborted();
+        check(made([&] { return sgt_transaction_remove(&reported, table, number); }));
     }
 
     // Aborts it, unless it has ended.
@@ -539,11 +524,32 @@ public:
     }
 
 private:
+    friend class BegunTransaction;
     friend class SharedEngine;
 
     explicit OwnTransaction(sgt_shared *shared) : shared(shared) { reported.size = sizeof reported; }
 
+    ~OwnTransaction() { abandon(); }
+
+    // Aborts it, unless it has ended: also inside a hook of the engine. This calls no hook, so it throws nothing.
+    void abandon() noexcept
+    {
+        if (reported.is_live) sgt_shared_abandon(shared, &reported.ticket);
+        reported.is_live = 0;
+    }
+
     void check(std::uint32_t status) const;
+
+    // Makes an access. It throws nothing but what a hook throws in it, which is noted.
+    template <typename Access> std::uint32_t made(Access access)
+    {
+        try {
+            return access();
+        } catch (...) {
+            of_hook = std::current_exception();
+            throw;
+        }
+    }
 
     // Starts the next try: alone after `tries` tries.
     void start(Wait wait, std::uint32_t tries);
@@ -558,11 +564,68 @@ private:
 
     sgt_shared *shared;
     sgt_transaction reported{};
-    bool is_in_body = false; // of `SharedEngine::transact`, which commits it
+    std::exception_ptr of_hook; // what a hook threw last in an access
 };
 
-// A transaction of a shared engine. Its destructor aborts it, unless it has ended before. It must not outlive the engine. After its end the
-// reply to each call is SGT_OVER, or the call throws Stale.
+// A transaction of `SharedEngine::begin`, which you commit. Its destructor aborts it, unless it has ended before, and
+// throws nothing. It must not outlive the engine.
+class [[nodiscard]] BegunTransaction : public OwnTransaction {
+public:
+    BegunTransaction(BegunTransaction &&other) noexcept : OwnTransaction(other.shared) { take(other); }
+
+    // Aborts what was there before, unless it has ended.
+    BegunTransaction &operator=(BegunTransaction &&other) noexcept
+    {
+        if (this == &other) return *this;
+        abandon();
+        take(other);
+        return *this;
+    }
+
+    // Commits it, and waits for its predecessors. Throws TimedOut if the deadline comes first, or SelfWait; then it was
+    // aborted.
+    void commit(Wait wait = std::nullopt)
+    {
+        if (!is_committed(wait)) throw aborted();
+    }
+
+private:
+    friend class SharedEngine;
+
+    BegunTransaction(sgt_shared *shared, Wait wait) : OwnTransaction(shared)
+    {
+        start(wait, UINT32_MAX); // it has one try, so it is never alone
+    }
+
+    void take(BegunTransaction &other) noexcept
+    {
+        shared = other.shared;
+        reported = other.reported;
+        other.reported.is_live = 0;
+    }
+};
+
+namespace detail {
+
+// Whether an expression has a type, with this type in it.
+template <template <typename> class Expression, typename Type, typename = void> struct Has : std::false_type {};
+template <template <typename> class Expression, typename Type>
+struct Has<Expression, Type, std::void_t<Expression<Type>>> : std::true_type {};
+
+template <typename Type> using OfCoroutine = typename Type::promise_type;
+template <typename Type> using OfAwaitable = decltype(std::declval<Type &>().await_ready());
+template <typename Type> using OfFuture = decltype(std::declval<Type &>().valid(), std::declval<Type &>().wait());
+
+// Whether what a body returns may have still to be run when the body has returned: then it would use a transaction that
+// has ended.
+template <typename Result>
+constexpr bool is_lazy =
+    Has<OfCoroutine, Result>::value || Has<OfAwaitable, Result>::value || Has<OfFuture, Result>::value;
+
+} // namespace detail
+
+// A transaction of a procedure in a shared engine. Its destructor aborts it, unless it has ended before, and throws
+// nothing. It must not outlive the engine. After its end the reply to each call is SGT_OVER, or the call throws Stale.
 class [[nodiscard]] Transaction {
 public:
     Transaction(Transaction &&other) noexcept
@@ -694,7 +757,10 @@ public:
     // The body is run again after a conflict, so it must have no effects but its accesses. What it reads may be uncommitted, and be undone
     // afterwards: act on it after the commit, when this call has returned. What it throws aborts the transaction and is rethrown, unless it
     // is a std::exception and a conflict had come first; it may rest on a value that is undone. To refuse truthfully, return the refusal
-    // without a write: once that is committed, it is true. The body must not commit the transaction itself.
+    // without a write: once that is committed, it is true. What it returns must not be a std::future, nor be awaited.
+    //
+    // What a hook throws is rethrown in each case, unless the body catches it. Nothing is committed then, unless it
+    // threw in the commit.
     //
     // After `tries` conflicts the next try is made alone: others wait until it has ended, and it has no conflicts.
     //
@@ -703,6 +769,8 @@ public:
     template <typename Body> auto transact(Body body, TransactLimits limits = {}) -> decltype(body(std::declval<OwnTransaction &>()))
     {
         using Result = decltype(body(std::declval<OwnTransaction &>()));
+        static_assert(!detail::is_lazy<Result>,
+                      "sgt: a body must not be a coroutine, nor return a future: that would run after the commit");
         const auto begin = std::chrono::steady_clock::now();
         OwnTransaction own(shared);
         if constexpr (std::is_void_v<Result>) {
@@ -715,12 +783,7 @@ public:
     }
 
     // Starts a transaction whose accesses you decide. Throws NotStarted, TimedOut, SelfWait or std::bad_alloc.
-    [[nodiscard]] OwnTransaction begin(Wait wait = std::nullopt)
-    {
-        OwnTransaction own(shared);
-        own.start(wait, UINT32_MAX); // it has one try, so it is never alone
-        return own;
-    }
+    [[nodiscard]] BegunTransaction begin(Wait wait = std::nullopt) { return {shared, wait}; }
 
     // Returns the accesses that the caller of a transaction decided, in their order. Throws Stale once the history is cut. The hooks of the
     // engine may call it. The cost grows with the entries since its start, so ask soon.
@@ -797,7 +860,7 @@ public:
     }
 
     // Takes at most `most` of the stored calls. Returns an empty list if none comes in time. Throws std::logic_error if the engine stores
-    // none.
+    // none. It calls no hook, so that nothing that was taken is lost.
     [[nodiscard]] std::vector<sgt_ended> drain(std::size_t most, Wait wait = std::nullopt)
     {
         if (hooks && !hooks->keeps_ended) throw std::logic_error("sgt: the engine stores no calls: set keeps_ended in its configuration");
@@ -842,7 +905,7 @@ private:
     // What is left of the limits.
     static Wait left(TransactLimits limits, std::chrono::steady_clock::time_point begin)
     {
-        if (!limits.wait) return std::nullopt;
+        if (!limits.wait || *limits.wait == std::chrono::nanoseconds::max()) return std::nullopt;
         const auto left = *limits.wait - std::chrono::duration_cast<std::chrono::nanoseconds>(std::chrono::steady_clock::now() - begin);
         return left.count() > 0 ? left : std::chrono::nanoseconds(0);
     }
@@ -852,11 +915,10 @@ private:
     static bool is_done(OwnTransaction &own, Call call, TransactLimits limits, std::chrono::steady_clock::time_point begin)
     {
         own.start(left(limits, begin), limits.tries);
-        own.is_in_body = true;
         try {
             call();
         } catch (const std::exception &) {
-            if (!own.ends_undone()) throw;
+            if (std::current_exception() == own.of_hook || !own.ends_undone()) throw;
             return false;
         }
         return own.is_committed(left(limits, begin));

@@ -42,7 +42,7 @@ pub struct Table {
 
 impl Table {
     /// Adds a row with all its columns, and returns its number.
-    pub fn insert(&self, t: &mut OwnTransaction, values: &[i64]) -> Result<i64, Error> {
+    pub fn insert(&self, t: &OwnTransaction, values: &[i64]) -> Result<i64, Error> {
         let row = t.read(self.place, 0)?.unwrap_or(0) + 1;
         t.write(self.place, 0, row)?;
         for (column, value) in (0..).zip(values) {
@@ -53,12 +53,12 @@ impl Table {
     }
 
     /// Returns a column of a row, or none if there is no such row.
-    pub fn get(&self, t: &mut OwnTransaction, row: i64, column: i64) -> Result<Option<i64>, Error> {
+    pub fn get(&self, t: &OwnTransaction, row: i64, column: i64) -> Result<Option<i64>, Error> {
         t.read(self.place, row * self.columns + column)
     }
 
     /// Changes a column of a row.
-    pub fn set(&self, t: &mut OwnTransaction, row: i64, column: i64, value: i64) -> Result<(), Error> {
+    pub fn set(&self, t: &OwnTransaction, row: i64, column: i64, value: i64) -> Result<(), Error> {
         if column == self.indexed {
             self.unlink(t, row)?;
         }
@@ -69,13 +69,13 @@ impl Table {
         Ok(())
     }
 
-    pub fn remove(&self, t: &mut OwnTransaction, row: i64) -> Result<(), Error> {
+    pub fn remove(&self, t: &OwnTransaction, row: i64) -> Result<(), Error> {
         self.unlink(t, row)?;
         (0..self.columns).try_for_each(|column| t.remove(self.place, row * self.columns + column))
     }
 
     /// Returns the rows whose indexed column has this value.
-    pub fn find(&self, t: &mut OwnTransaction, value: i64) -> Result<Vec<i64>, Error> {
+    pub fn find(&self, t: &OwnTransaction, value: i64) -> Result<Vec<i64>, Error> {
         let mut rows = Vec::new();
         let mut next = t.read(self.place + 1, 3 * value)?;
         while let Some(row) = next {
@@ -86,7 +86,7 @@ impl Table {
     }
 
     /// Returns all rows with their indexed column, without the index.
-    pub fn all(&self, t: &mut OwnTransaction) -> Result<Vec<(i64, i64)>, Error> {
+    pub fn all(&self, t: &OwnTransaction) -> Result<Vec<(i64, i64)>, Error> {
         let mut rows = Vec::new();
         for row in 1..=t.read(self.place, 0)?.unwrap_or(0) {
             rows.extend(self.get(t, row, self.indexed)?.map(|value| (row, value)));
@@ -95,7 +95,7 @@ impl Table {
     }
 
     /// Has a record of the index name this row, or none.
-    fn point(&self, t: &mut OwnTransaction, record: i64, row: Option<i64>) -> Result<(), Error> {
+    fn point(&self, t: &OwnTransaction, record: i64, row: Option<i64>) -> Result<(), Error> {
         match row {
             Some(row) => t.write(self.place + 1, record, row),
             None => t.remove(self.place + 1, record),
@@ -103,11 +103,11 @@ impl Table {
     }
 
     /// The record of the index that has the first row of this one's list.
-    fn first(&self, t: &mut OwnTransaction, row: i64) -> Result<i64, Error> {
+    fn first(&self, t: &OwnTransaction, row: i64) -> Result<i64, Error> {
         Ok(3 * self.get(t, row, self.indexed)?.unwrap_or(0))
     }
 
-    fn link(&self, t: &mut OwnTransaction, row: i64) -> Result<(), Error> {
+    fn link(&self, t: &OwnTransaction, row: i64) -> Result<(), Error> {
         let first = self.first(t, row)?;
         let after = t.read(self.place + 1, first)?;
         self.point(t, first, Some(row))?;
@@ -118,7 +118,7 @@ impl Table {
         }
     }
 
-    fn unlink(&self, t: &mut OwnTransaction, row: i64) -> Result<(), Error> {
+    fn unlink(&self, t: &OwnTransaction, row: i64) -> Result<(), Error> {
         let (after, before) = (t.read(self.place + 1, 3 * row + 1)?, t.read(self.place + 1, 3 * row + 2)?);
         let from = match before {
             Some(before) => 3 * before + 1,

@@ -127,6 +127,86 @@ static void a_call_that_has_begun_finds_the_engine_closed(void)
     pthread_join(thread, 0);
 }
 
+/* A call that is held up before it takes the lock, while its engine is closed and another one gets its memory. */
+struct late {
+    sgt_shared *shared;
+    sgt_ticket ticket;
+    uint32_t (*call)(struct late *it);
+    uint32_t status;
+};
+
+static uint32_t counts_entries(struct late *it)
+{
+    uint64_t count = 0;
+    return sgt_shared_entries(it->shared, &count, 0);
+}
+
+static uint32_t steps(struct late *it)
+{
+    sgt_reply reply = {0};
+    return sgt_shared_step(it->shared, &it->ticket, &reply);
+}
+
+static uint32_t commits_ticket(struct late *it)
+{
+    sgt_reply reply = {0};
+    return sgt_shared_commit(it->shared, &it->ticket, 0, &reply);
+}
+
+static uint32_t abandons_ticket(struct late *it) { return sgt_shared_abandon(it->shared, &it->ticket); }
+
+static uint32_t runs_once(struct late *it)
+{
+    sgt_shared_outcome outcome = SGT_SHARED_OUTCOME;
+    return sgt_shared_run(it->shared, WRITE, 0, 0, 0, &outcome);
+}
+
+static void *calls_late(void *of)
+{
+    struct late *it = of;
+    held_up = BEFORE;
+    it->status = it->call(it);
+    return 0;
+}
+
+enum { MOST_OPENED = 1000 }; /* far more than are set aside before memory serves again */
+
+/* Another engine with the memory of one that was closed. */
+static sgt_shared *opened_there(const sgt_shared *there)
+{
+    sgt_shared *shared = opened(0);
+    for (int made = 0; made < MOST_OPENED && shared != there; made++) {
+        closes(shared);
+        shared = opened(0);
+    }
+    CHECK(shared == there);
+    return shared;
+}
+
+/* Its transaction has the same number, and is live. */
+static void a_late_call_acts_on_no_other_engine(void)
+{
+    static uint32_t (*const calls[])(struct late *) = {counts_entries, steps, commits_ticket, abandons_ticket, runs_once};
+    for (int i = 0; i < 5; i++) {
+        struct late it = {.shared = opened(0), .call = calls[i]};
+        pthread_t thread;
+        uint64_t count = 0;
+        it.ticket = begins(it.shared, WRITE, 1);
+        is_held_up = may_go_on = 0;
+        CHECK(pthread_create(&thread, 0, calls_late, &it) == 0);
+        while (!is_held_up) sched_yield();
+        closes(it.shared);
+        sgt_shared *other = opened_there(it.shared);
+        const sgt_ticket same = begins(other, WRITE, 1);
+        CHECK(same.tid == it.ticket.tid && same.part == it.ticket.part);
+        may_go_on = 1;
+        pthread_join(thread, 0);
+        CHECK(it.status == SGT_CLOSED && lives(other) == 1);
+        CHECK(sgt_shared_entries(other, &count, 0) == SGT_OK && count == 2);
+        closes(other);
+    }
+}
+
 /* Counts entries until the engine is closed. */
 static void *counts(void *of)
 {
@@ -566,7 +646,10 @@ static uint32_t starts_when_asked(void *context)
     return 0;
 }
 
-/* A thread that is asked keeps its place: no start comes past the cut that it waits for. */
+/*
+ * A thread that is asked keeps its place: no start comes past the cut that it waits for. That start rests beside it, so
+ * what ends is announced to somebody: shared_rests.c has each call rest alone.
+ */
 static void a_watched_cut_holds_starts_up(void)
 {
     struct place_of_cut it = {.shared = opened(0)};
@@ -582,6 +665,7 @@ static void a_watched_cut_holds_starts_up(void)
 int main(void)
 {
     a_call_that_has_begun_finds_the_engine_closed();
+    a_late_call_acts_on_no_other_engine();
     a_close_beside_calls_closes();
     a_close_comes_before_calls_that_wait();
     a_close_never_waits_for_a_hook();

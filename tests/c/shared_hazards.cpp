@@ -1,11 +1,13 @@
-// What may go wrong around a shared engine in C++: hooks that throw, transactions that are destroyed in a hook or used after their end, and
-// an engine that is destroyed beside a call. Each failed check is printed; the last line counts them.
+// What may go wrong around a shared engine in C++: hooks that throw in each kind of call, aborts on the way out of a
+// body or by a destructor, transactions that are destroyed in a hook or used after their end, and an engine that is
+// destroyed beside a call. Each failed check is printed; the last line counts them.
 #include <atomic>
 #include <chrono>
 #include <cstdio>
 #include <cstring>
 #include <memory>
 #include <new>
+#include <numeric>
 #include <stdexcept>
 #include <string>
 #include <thread>
@@ -97,6 +99,201 @@ static void a_hook_of_cuts_throws()
     CHECK(reported == 3 && bank.live().empty());
 }
 
+// A hook before a cut that throws while the disk is full, and counts its calls.
+struct Disk {
+    bool is_full = true;
+    int asked = 0;
+};
+
+// An engine whose history is cut off after four entries, and which stores calls if it has a hook for them.
+static sgt::SharedEngine engine_on(Disk &disk, std::chrono::nanoseconds cut_wait = {},
+                                   std::function<void(const sgt_ended &)> ended = {})
+{
+    sgt::Configuration with;
+    with.cutting = [&](sgt_engine *, std::uint64_t) {
+        disk.asked++;
+        if (disk.is_full) throw std::runtime_error("full disk");
+    };
+    with.cut_after = 4;
+    with.cut_wait = cut_wait;
+    with.keeps_ended = static_cast<bool>(ended);
+    with.ended = std::move(ended);
+    return sgt::SharedEngine(opening, {}, with);
+}
+
+static void makes_four_entries(sgt::OwnTransaction &t)
+{
+    for (int value = 0; value < 4; value++) t.write(7, 3, value);
+}
+
+// Ways to abort a transaction after which a cut is due, and what each throws.
+struct Way {
+    void (*aborts)(sgt::SharedEngine &);
+    const char *thrown;
+};
+
+static const Way ways[] = {
+    {[](sgt::SharedEngine &bank) {
+         bank.transact([](sgt::OwnTransaction &t) {
+             makes_four_entries(t);
+             throw std::domain_error("the body");
+         });
+     },
+     "the body"},
+    {[](sgt::SharedEngine &bank) {
+         try {
+             bank.transact([](sgt::OwnTransaction &t) {
+                 makes_four_entries(t);
+                 throw 1; // that is no std::exception
+             });
+         } catch (int number) {
+             throw std::domain_error(std::to_string(number));
+         }
+     },
+     "1"},
+    {[](sgt::SharedEngine &bank) {
+         auto t = bank.begin();
+         makes_four_entries(t);
+         throw std::domain_error("beside a transaction");
+     },
+     "beside a transaction"},
+    {[](sgt::SharedEngine &bank) {
+         auto t = bank.begin();
+         makes_four_entries(t);
+     },
+     ""},
+    {[](sgt::SharedEngine &bank) {
+         auto t = bank.begin();
+         makes_four_entries(t);
+         t.quit();
+     },
+     ""},
+    {[](sgt::SharedEngine &bank) {
+         auto t = bank.start(WRITE, {});
+         while (t.first->step().kind != SGT_ENDED) continue;
+     },
+     ""},
+};
+
+// An abort on the way out calls no hook: what was thrown before goes on, and a later call makes the cut that is due.
+static void aborts_on_the_way_out_throw_nothing()
+{
+    Disk disk;
+    auto bank = engine_on(disk);
+    int asked = 0;
+    for (const auto &way : ways) {
+        CHECK(thrown([&] { way.aborts(bank); }) == way.thrown && disk.asked == asked);
+        CHECK(thrown([&] { (void)bank.entries(); }) == "full disk" && disk.asked == ++asked);
+        CHECK(bank.entries() > 0 && disk.asked == asked && bank.live().empty());
+    }
+    disk.is_full = false;
+    bank.cut();
+    CHECK(bank.entries() == 0 && !bank.get(7, 3));
+}
+
+static void drain_into(std::vector<std::uint64_t> &drained, sgt::SharedEngine &bank)
+{
+    for (const auto &ended : bank.drain(10, std::chrono::nanoseconds(0))) drained.push_back(ended.sequence);
+}
+
+// Each call is carried out, and what is stored of it is drained once, though one hook or the other throws in each.
+static void a_drain_loses_nothing()
+{
+    Disk disk;
+    bool is_ended_full = false;
+    auto bank = engine_on(disk, {}, [&](const sgt_ended &) {
+        if (is_ended_full) throw std::runtime_error("full disk of the journal");
+    });
+    std::vector<std::uint64_t> drained;
+    for (int made = 0; made < 16; made++) {
+        is_ended_full = made % 4 > 1; // then no cut is made, though it is due
+        const char *why = is_ended_full ? "full disk of the journal" : "full disk";
+        const auto run = [&] { (void)bank.run(WRITE, {}); };
+        CHECK(thrown([&] { made % 2 == 0 ? run() : bank.transact(makes_four_entries); }) == why);
+        const int asked = disk.asked;
+        if (made % 3 == 2) drain_into(drained, bank);
+        CHECK(disk.asked == asked);
+    }
+    drain_into(drained, bank);
+    std::vector<std::uint64_t> all(16);
+    std::iota(all.begin(), all.end(), 0);
+    CHECK(drained == all);
+}
+
+// Closes a cycle: the transaction is aborted, so that nobody is live any more, and a cut is due.
+static void is_aborted_in_its_access(sgt::SharedEngine &bank, sgt::OwnTransaction &t)
+{
+    static_cast<void>(bank.live()); // so that nothing is due before
+    auto other = bank.begin();
+    t.write(7, 3, 5);
+    other.write(7, 4, other.read(7, 3).value_or(0) + 1);
+    static_cast<void>(t.read(7, 4));
+}
+
+// A body may catch what the hook before a cut throws in its access, and is run again if the access was aborted by a
+// cycle.
+static void a_body_catches_what_a_hook_throws()
+{
+    for (bool is_thrown_on : {false, true}) {
+        Disk disk;
+        auto bank = engine_on(disk);
+        auto tries = bank.transact([&](sgt::OwnTransaction &t) {
+            if (t.tries() > 1) return t.write(7, 5, 1), t.tries();
+            CHECK(thrown([&] { is_aborted_in_its_access(bank, t); }) == "full disk" && bank.live().empty());
+            disk.is_full = false;
+            try {
+                t.write(7, 5, 9);
+                CHECK(false);
+            } catch (const sgt::Aborted &why) {
+                CHECK(why.is_conflict && why.reply.cause == SGT_BY_CYCLE);
+            }
+            if (is_thrown_on) throw std::out_of_range("of a value that is undone");
+            return t.tries();
+        });
+        CHECK(tries == 2 && bank.get(7, 5) == 1 && !bank.get(7, 3) && bank.live().empty());
+    }
+}
+
+// If the body does not catch it, its call throws it, and nothing is committed: it is not run again.
+static void a_body_does_not_catch_what_a_hook_throws()
+{
+    Disk disk;
+    auto bank = engine_on(disk);
+    unsigned tries = 0;
+    const auto body = [&](sgt::OwnTransaction &t) {
+        tries = t.tries();
+        is_aborted_in_its_access(bank, t);
+    };
+    CHECK(thrown([&] { bank.transact(body); }) == "full disk" && tries == 1 && disk.asked == 1);
+    CHECK(bank.live().empty() && !bank.get(7, 3));
+}
+
+// Starts that wait for a cut make it, and its hook throws: nothing was started, and later starts do not wait.
+static void a_start_throws_what_a_hook_throws()
+{
+    const auto begins = [](sgt::SharedEngine &bank) { bank.begin().commit(); };
+    const auto runs = [](sgt::SharedEngine &bank) { (void)bank.run(WRITE, {}); };
+    const auto is_alone = [](sgt::SharedEngine &bank) {
+        sgt::TransactLimits limits;
+        limits.tries = 0;
+        bank.transact([](sgt::OwnTransaction &t) { t.write(7, 1, 5); }, limits);
+    };
+    for (void (*starts)(sgt::SharedEngine &) : {+begins, +runs, +is_alone}) {
+        Disk disk;
+        auto bank = engine_on(disk, std::chrono::hours(1));
+        auto first = bank.begin();
+        makes_four_entries(first);
+        std::string why;
+        std::thread waiting([&] { why = thrown([&] { starts(bank); }); });
+        std::this_thread::sleep_for(std::chrono::milliseconds(50)); // so that it waits; if not, all is the same
+        first.quit(); // without the cut: it is left to the start
+        waiting.join();
+        CHECK(why == "full disk" && disk.asked == 1 && bank.live().empty() && !bank.get(7, 1));
+        disk.is_full = false;
+        CHECK(thrown([&] { starts(bank); }).empty());
+    }
+}
+
 static void a_transaction_is_destroyed_in_a_hook()
 {
     std::optional<sgt::Transaction> kept;
@@ -154,6 +351,11 @@ int main()
     hooks_of_c_throw();
     a_hook_throws();
     a_hook_of_cuts_throws();
+    aborts_on_the_way_out_throw_nothing();
+    a_drain_loses_nothing();
+    a_body_catches_what_a_hook_throws();
+    a_body_does_not_catch_what_a_hook_throws();
+    a_start_throws_what_a_hook_throws();
     a_transaction_is_destroyed_in_a_hook();
     a_transaction_is_used_after_its_end();
     an_engine_is_destroyed_beside_a_call();

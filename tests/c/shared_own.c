@@ -713,6 +713,59 @@ static void threads_may_end_in_bodies(void)
     closes(shared);
 }
 
+/* Bodies that put another transaction in the place of their own */
+
+struct swap {
+    sgt_shared *of; /* the engine of the other one */
+    sgt_transaction other;
+    bool goes_back;
+};
+
+static void swap(sgt_transaction *one, sgt_transaction *other)
+{
+    const sgt_transaction had = *one;
+    *one = *other, *other = had;
+}
+
+static uint32_t swaps(void *context, sgt_transaction *t)
+{
+    struct swap *it = context;
+    CHECK(sgt_transaction_write(t, TABLE, 1, 5) == SGT_OK);
+    CHECK(sgt_shared_try(it->of, &it->other, 0) == SGT_OK && sgt_transaction_write(&it->other, TABLE, 2, 6) == SGT_OK);
+    swap(t, &it->other);
+    if (it->goes_back) swap(t, &it->other);
+    return SGT_BODY_COMMIT;
+}
+
+/* It ends its transaction, and begins another one. */
+static uint32_t begins_anew(void *context, sgt_transaction *t)
+{
+    CHECK(sgt_transaction_quit(t) == SGT_OK && sgt_shared_try(context, t, 0) == SGT_OK);
+    CHECK(sgt_transaction_write(t, TABLE, 1, 5) == SGT_OK);
+    return SGT_BODY_COMMIT;
+}
+
+static void bodies_may_not_swap(void)
+{
+    sgt_shared *shared = opened(0), *other = opened(0);
+    for (int is_other = 0; is_other < 2; is_other++) {
+        struct swap it = {.of = is_other ? other : shared, .other = SGT_TRANSACTION};
+        sgt_shared_outcome out = fresh;
+        CHECK(sgt_shared_transact(shared, swaps, &it, 0, &out) == SGT_MISUSE && out.tries == 1 && out.reply.kind == fresh.reply.kind);
+        CHECK(lives(shared) == 0 && lives(other) == 0 && got(shared, 1) == 10 && got(it.of, 2) == 20);
+        it = (struct swap){.of = it.of, .other = SGT_TRANSACTION, .goes_back = true};
+        CHECK(sgt_shared_transact(shared, swaps, &it, 0, &out) == SGT_OK && out.reply.kind == SGT_COMMITTED && got(shared, 1) == 5);
+        CHECK(sgt_transaction_quit(&it.other) == SGT_OK && got(it.of, 2) == 20);
+        sgt_transaction t = SGT_TRANSACTION;
+        CHECK(sgt_shared_try(shared, &t, 0) == SGT_OK && sgt_transaction_write(&t, TABLE, 1, 10) == SGT_OK);
+        CHECK(sgt_transaction_commit(&t, 0) == SGT_OK);
+    }
+    sgt_shared_outcome out = fresh;
+    CHECK(sgt_shared_transact(shared, begins_anew, shared, 0, &out) == SGT_MISUSE && lives(shared) == 0 && got(shared, 1) == 10);
+    closes(shared);
+    closes(other);
+}
+
 static uint32_t forks(void *context, sgt_transaction *t)
 {
     struct note *note = context;
@@ -822,6 +875,7 @@ int main(void)
     threads_that_wait_through_others_are_reported();
     bodies_may_jump();
     threads_may_end_in_bodies();
+    bodies_may_not_swap();
     bodies_may_fork();
     hooks_are_called_with_accesses();
     loops_are_of_ones_own();

@@ -91,22 +91,12 @@ static void functions_throw()
     CHECK(throws<std::invalid_argument>([&] { bank.transact([](sgt::OwnTransaction &t) { t.write(8, 1, 1); }); }));
     CHECK(throws<std::invalid_argument>([&] { bank.transact([](sgt::OwnTransaction &t) { t.remove(TABLE, SGT_MOST + 1); }); }));
     CHECK(throws<sgt::Aborted>([&] { bank.transact([](sgt::OwnTransaction &t) { t.quit(); }); }));
-    CHECK(throws<std::logic_error>([&] {
-        bank.transact([](sgt::OwnTransaction &t) {
-            t.write(TABLE, 101, 99);
-            t.commit();
-        });
-    }));
-    CHECK(throws<std::logic_error>([&] {
-        bank.transact([](sgt::OwnTransaction &t) {
-            t.write(TABLE, 101, 99);
-            auto moved = std::move(t);
-            moved.commit();
-        });
-    }));
     auto ended = bank.begin();
     ended.commit();
     CHECK(throws<std::logic_error>([&] { ended.write(TABLE, 101, 99); }));
+    auto moved = std::move(ended);
+    CHECK(throws<std::logic_error>([&] { ended.write(TABLE, 101, 99); }));
+    CHECK(throws<std::logic_error>([&] { moved.write(TABLE, 101, 99); }));
     CHECK(bank.live().empty() && bank.get(TABLE, 101) == 10);
 }
 
@@ -148,7 +138,7 @@ static void conflicts_are_tried_again()
     for (bool is_thrown : {false, true}) {
         unsigned tries = 0;
         auto value = bank.transact([&](sgt::OwnTransaction &t) {
-            std::optional<sgt::OwnTransaction> other;
+            std::optional<sgt::BegunTransaction> other;
             if (++tries < 4) other.emplace(bank.begin());
             if (other) other->write(TABLE, 101, 99);
             auto read = t.read(TABLE, 101);

@@ -34,10 +34,10 @@ fn commits() -> Result<(), Error> {
     assert_eq!(accesses.len(), 6);
     assert_eq!(accesses[2], Access { kind: AccessKind::Write, table: TABLE, number: 101, value: Some(11) });
     assert_eq!(accesses[3], Access { kind: AccessKind::Remove, table: TABLE, number: 102, value: None });
-    let mut t = bank.begin(None)?;
+    let t = bank.begin(None)?;
     t.write(TABLE, 104, 40)?;
     t.commit(None)?;
-    let mut dropped = bank.begin(None)?;
+    let dropped = bank.begin(None)?;
     dropped.write(TABLE, 104, 41)?;
     drop(dropped);
     assert_eq!((bank.get(TABLE, 104)?, bank.live()?.len()), (Some(40), 0));
@@ -87,7 +87,7 @@ fn quits() -> Result<(), Error> {
 
 fn says_why() -> Result<(), Error> {
     let bank = opened(Configuration::default())?;
-    let (mut writer, mut reader, mut other) = (bank.begin(None)?, bank.begin(None)?, bank.begin(None)?);
+    let (writer, reader, other) = (bank.begin(None)?, bank.begin(None)?, bank.begin(None)?);
     writer.write(TABLE, 101, 11)?;
     assert_eq!(reader.read(TABLE, 101)?, Some(11));
     assert_eq!(reader.commit(None), Err(Error::SelfWait));
@@ -98,7 +98,7 @@ fn says_why() -> Result<(), Error> {
     assert_eq!(other.read(TABLE, 101), Err(fell.clone()));
     assert_eq!(other.write(TABLE, 101, 1), Err(fell.clone()));
     assert_eq!(other.commit(None), Err(fell));
-    let mut writer = bank.begin(None)?;
+    let writer = bank.begin(None)?;
     writer.write(TABLE, 101, 11)?;
     let reported = bank.transact_within(TransactLimits { wait: Some(Duration::from_millis(5)), ..TransactLimits::default() }, |t| {
         t.read(TABLE, 101)
@@ -122,7 +122,7 @@ fn tries_again() -> Result<(), Error> {
             tries.push(t.tries());
             let mut other = None;
             if tries.len() < 4 {
-                let mut writer = bank.begin(None)?;
+                let writer = bank.begin(None)?;
                 writer.write(TABLE, 101, 99)?;
                 other = Some(writer);
             }
@@ -142,7 +142,7 @@ fn tries_again() -> Result<(), Error> {
         tries += 1;
         t.write(TABLE, 101, tries)?;
         match bank.begin(Some(Duration::ZERO)) {
-            Ok(mut other) => {
+            Ok(other) => {
                 other.write(TABLE, 102, 1)?;
                 other.read(TABLE, 101)?;
                 t.read(TABLE, 102).map(|_| ())

@@ -15,6 +15,7 @@ CPP_FLAGS = ["-std=c++17", "-Wall", "-Wextra", "-Werror", "-O2", *INCLUDES, f"-I
 SANITIZERS = ["-g", "-fsanitize=address,undefined", "-fno-sanitize-recover=all"]
 THREAD_SANITIZER = ["-g", "-fsanitize=thread"]
 WRAPS = ["-Wl,--wrap=malloc,--wrap=realloc,--wrap=calloc,--wrap=aligned_alloc"]
+WRAPS_CLOCK = ["-Wl,--wrap=clock_gettime"]
 WRAPS_LOCK = ["-Wl,--wrap=pthread_mutex_trylock"]
 
 # What a sanitizer says if the addresses that the system has drawn for a program are some that the sanitizer needs itself. The program has not
@@ -53,6 +54,15 @@ def compiled(scratch, compiler, flags, source, extra=()):
     made = scratch / f"{source.stem}{abs(hash(tuple(map(str, extra)))) % 10**6}.o"
     run([compiler, *flags, *extra, "-c", "-o", made, source])
     return made
+
+
+def refused(words):
+    """What a compiler writes of a program that it refuses."""
+    words = [str(word) for word in words]
+    ran = subprocess.run(words, capture_output=True, timeout=SECONDS, check=False)
+    if ran.returncode == 0:
+        raise Differs(f"not refused: {words}")
+    return ran.stderr.decode()
 
 
 def can(scratch, compiler, flags, text="int main(void) { return 0; }", words=()):

@@ -9,7 +9,7 @@ import ctypes
 import threading
 from typing import Callable, NamedTuple, Optional
 
-from ._library import CLOSED, FREE, CEnded, CTicket, check
+from ._library import CLOSED, FOREVER, FREE, CEnded, CTicket, check
 from ._replies import Call, call_of
 
 BATCH = 64  # so many calls at most are taken from the library at a time
@@ -54,10 +54,11 @@ class Stored:
             self._calls.append(call)
             self._added.notify_all()
 
-    def wait(self, timeout: Optional[float]) -> None:
-        """Waits until there are some."""
+    def wait(self, wait_ns: int) -> None:
+        """Waits until there are some, or for so long."""
+        seconds = None if wait_ns == FOREVER else min(wait_ns / 1e9, threading.TIMEOUT_MAX)
         with self._lock:
-            self._added.wait_for(lambda: self._calls, timeout)
+            self._added.wait_for(lambda: self._calls, seconds)
 
     def take(self, most: int) -> list[CEnded]:
         """Takes at most `most`, oldest first."""

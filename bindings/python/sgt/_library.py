@@ -31,7 +31,7 @@ from ._errors import (
 )
 
 # The version of the headers that this package is for.
-VERSION = "0.3.1"
+VERSION = "0.4.0"
 
 # The least and the greatest value, argument and record number.
 LEAST, MOST = -999_999_999_999_999, 999_999_999_999_999
@@ -358,8 +358,12 @@ def check(status: int) -> None:
 
 
 def nanoseconds(seconds: Optional[float]) -> int:
-    """Returns the deadline for a call. None: without a limit."""
-    return FOREVER if seconds is None else max(0, min(FOREVER - 1, int(seconds * 1e9)))
+    """Returns the deadline for a call. None, infinity, and what is too long: without a limit. Raises BadCall."""
+    if seconds is None or seconds >= FOREVER // 10**9:
+        return FOREVER
+    if not seconds >= 0:  # not a number, too
+        raise BadCall(f"a timeout is None, or a number of seconds that is not negative: {seconds}")
+    return int(seconds * 1e9)
 
 
 def whole(number: int, least: int, most: int) -> int:
@@ -470,13 +474,15 @@ def unpack_calls(data: bytes) -> list[tuple[int, ...]]:
 
 
 class Uncopied:
-    """An engine has one owner: it can be neither copied nor pickled."""
+    """An engine or a transaction has one owner: it can be neither copied nor pickled."""
+
+    _noun = "an engine"
 
     def __copy__(self) -> None:
-        raise TypeError("sgt: an engine can't be copied")
+        raise TypeError(f"sgt: {self._noun} can't be copied")
 
     def __deepcopy__(self, _: Optional[object]) -> None:
-        raise TypeError("sgt: an engine can't be copied")
+        raise TypeError(f"sgt: {self._noun} can't be copied")
 
     def __reduce__(self) -> str:
-        raise TypeError("sgt: an engine can't be pickled")
+        raise TypeError(f"sgt: {self._noun} can't be pickled")

@@ -4,6 +4,7 @@ from __future__ import annotations
 
 import ctypes
 import functools
+import sys
 import time
 import types
 import weakref
@@ -11,8 +12,23 @@ from typing import TYPE_CHECKING, Callable, Optional, TypeVar
 
 from ._ended import Ticket, ticket_of
 from ._errors import Aborted, Error, Misuse, NotStarted
-from ._interrupts import interruptible
-from ._library import ABANDON, FREE, LEAST, MISUSE, MOST, NONE, OK, UNDONE, CTransaction, CTransactOptions, check, nanoseconds, whole
+from ._library import (
+    ABANDON,
+    FOREVER,
+    FREE,
+    LEAST,
+    MISUSE,
+    MOST,
+    NONE,
+    OK,
+    UNDONE,
+    CTransaction,
+    CTransactOptions,
+    Uncopied,
+    check,
+    nanoseconds,
+    whole,
+)
 from ._replies import Kind, Reply, reply_of
 
 if TYPE_CHECKING:
@@ -20,32 +36,53 @@ if TYPE_CHECKING:
 
 _Result = TypeVar("_Result")
 
-_LAZY = (types.CoroutineType, types.GeneratorType, types.AsyncGeneratorType)  # of these nothing, or not all, has been run
+_PLAIN = frozenset((type(None), bool, int, str, tuple, list, dict))  # what most bodies return
+_LAZY = (types.GeneratorType, types.AsyncGeneratorType)  # beside what can be awaited
 
 
-def _left(deadline: Optional[float]) -> int:
+def deadline_in(timeout: Optional[float]) -> Optional[int]:
+    """Returns when a call that begins now times out: in nanoseconds, or None."""
+    wait_ns = nanoseconds(timeout)
+    return None if wait_ns == FOREVER else time.monotonic_ns() + wait_ns
+
+
+def _left(deadline: Optional[int]) -> int:
     """Returns the nanoseconds that are left until then."""
-    return nanoseconds(None if deadline is None else deadline - time.monotonic())
+    return FOREVER if deadline is None else max(0, deadline - time.monotonic_ns())
+
+
+def _is_lazy(result: object) -> bool:
+    """Whether what a body returned may have still to be run, so that it would use a transaction that has ended: if it
+    is a generator, can be awaited, or is a future of another thread. (Whoever has such a future has imported its
+    module.)"""
+    kind = type(result)
+    if kind in _PLAIN:
+        return False
+    future = getattr(sys.modules.get("concurrent.futures"), "Future", ())
+    return hasattr(kind, "__await__") or isinstance(result, _LAZY) or isinstance(result, future)
 
 
 def _not_run(result: object) -> TypeError:
-    """The error of a body that is async or a generator: what it returns has still to be run."""
+    """The error of a body that returned such a thing."""
     if isinstance(result, types.CoroutineType):
         result.close()  # else Python warns that it was never awaited
-    return TypeError(f"sgt: the body returned a {type(result).__name__}: it must not be async or a generator")
+    must_not = "it must not be async or a generator, nor return what is awaited or a future"
+    return TypeError(f"sgt: the body returned a {type(result).__name__}: {must_not}")
 
 
-class OwnTransaction:
+class OwnTransaction(Uncopied):
     """A transaction whose accesses you decide, of `SharedEngine.transaction` or `SharedEngine.transact`.
 
     The end of a `with` block commits it, unless it has ended before; an exception in the block aborts it. So does the loss of the last
     reference to it, wherever an interrupt comes. Each call raises Aborted if the transaction has been aborted, NoMemory, BadCall if a
-    number is out of range, or Misuse once you have committed or aborted it.
+    number is out of range, or Misuse once you have committed or aborted it. It can be neither copied nor pickled.
 
     What it reads may be uncommitted, and be undone afterwards. So act on it only after the commit.
     """
 
+    _noun = "a transaction"
     _guard: Optional[weakref.ref[OwnTransaction]] = None  # aborts it; no Python code runs then, in which an interrupt could come
+    _of_hook: Optional[Exception] = None  # what a hook raised last in an access of the body
 
     def __init__(self, engine: SharedEngine) -> None:
         self._engine, self._reported = engine, CTransaction(size=ctypes.sizeof(CTransaction))
@@ -90,7 +127,6 @@ class OwnTransaction:
             raise Misuse("a body must not commit its transaction: `transact` does when the body returns")
         if not self._commits(nanoseconds(timeout)):
             raise self._aborted()
-        self._engine._report(self._ticket)
         return self._reply()
 
     def quit(self) -> None:
@@ -99,11 +135,12 @@ class OwnTransaction:
             self._ends_undone()
 
     def _ask(self, function: Callable[..., int], *words: object) -> int:
-        """Makes a call for it and returns its status."""
-        self._engine._check_place()
-        status = function(self._reported, *words)
-        self._engine._check_cut()
-        return status
+        """Makes an access and returns its status."""
+        try:
+            return self._engine._made(function, self._reported, *words)
+        except Exception as why:
+            self._of_hook = why if self._in_body else None
+            raise
 
     def _check(self, status: int) -> None:
         """Raises what the status says, unless it is OK."""
@@ -126,26 +163,26 @@ class OwnTransaction:
         if self._reported.reply.kind != Kind.STARTED:
             raise NotStarted(self._reply())
 
-    def _run(self, body: Callable[[OwnTransaction], _Result], tries: int, deadline: Optional[float]) -> _Result:
+    def _run(self, body: Callable[[OwnTransaction], _Result], tries: int, deadline: Optional[int]) -> _Result:
         """Runs the body, again after each conflict, and commits. Raises Aborted if another caller aborted it."""
         self._in_body = True
         while True:
             self._start(tries, _left(deadline))
+            self._of_hook = None
             try:
                 result = body(self)
-                if isinstance(result, _LAZY):
+                if _is_lazy(result):
                     raise _not_run(result)
-                if self._commits(_left(deadline)):
-                    return result
-            except Exception:
-                if not self._ends_undone():
+            except Exception as why:
+                if why is self._of_hook or not self._ends_undone():
                     raise
+                continue
+            if self._commits(_left(deadline)):
+                return result
 
     def _commits(self, wait_ns: int) -> bool:
         """Commits it. False if it was aborted by a conflict. Raises Aborted if another caller aborted it."""
-        self._engine._check_place()
-        status = interruptible(FREE.sgt_transaction_commit, self._reported, wait_ns)
-        self._engine._check_cut()
+        status = self._engine._commit(self._ticket, FREE.sgt_transaction_commit, self._reported, wait_ns)
         if status == UNDONE:
             return False
         check(status)
@@ -154,7 +191,7 @@ class OwnTransaction:
         return True
 
     def _ends_undone(self) -> bool:
-        """Aborts it, unless it has ended. Whether it was aborted by a conflict."""
+        """Aborts it, unless it has ended. Whether it was aborted by a conflict. No hook is called."""
         return FREE.sgt_transaction_quit(self._reported) == UNDONE
 
     def _abandon(self) -> None:

@@ -5,7 +5,6 @@ from __future__ import annotations
 import ctypes
 import functools
 import sys
-import time
 import weakref
 from typing import Callable, NamedTuple, Optional, Sequence, TypeVar, Union, overload
 
@@ -24,6 +23,7 @@ from ._library import (
     LEAST,
     MOST,
     NONE,
+    OK,
     AnyRow,
     CEnded,
     CFault,
@@ -45,7 +45,7 @@ from ._library import (
     rows_of,
     whole,
 )
-from ._own import OwnTransaction
+from ._own import OwnTransaction, deadline_in
 from ._replies import Access, Kind, Reply, all_accesses, reply_of
 
 _Result = TypeVar("_Result")
@@ -78,7 +78,8 @@ class Outcome(NamedTuple):
 class SharedEngine(Uncopied):
     """An engine for many threads: any thread may call it at any time. Each call releases the interpreter's lock.
 
-    It is closed at the end of a `with` block, by `close`, or when it is collected. Timeouts are seconds; None waits without a limit.
+    It is closed at the end of a `with` block, by `close`, or when it is collected. Timeouts are seconds. None and
+    infinity wait without a limit, and what is negative or not a number is a BadCall.
     """
 
     def __init__(
@@ -101,9 +102,11 @@ class SharedEngine(Uncopied):
         a KeyboardInterrupt or the like, that is raised at once, and the next call calls it again for the same `sequence`.
 
         `cutting` is called before each cut with the engine and the number of the part that is cut off, to read its history and database. It is
-        called by the call that cuts, on its thread, and nothing else happens meanwhile; it may not call the shared engine. If it raises,
-        there is no cut, and that is raised by this call, which has been carried out, unless it was `cut`. If memory is short the cut fails,
-        and the hook is called again for the same part later. Calls may be cut off before `ended` is called for them.
+        called by the call that cuts, on its thread, and nothing else happens meanwhile; it may not call the shared
+        engine. If it raises, there is no cut, and that is raised by this call, unless an interrupt is. The call has
+        been carried out, but for `cut`, and for the start of a transaction, of which nothing is left live. An abort at
+        the end of a body or a block does not call it. If memory is short the cut fails, and the hook is called again
+        for the same part later. Calls may be cut off before `ended` is called for them.
 
         With `keeps_ended` such calls are stored until `drain` takes them. Once the history has `cut_after` entries and no transaction
         is live, it is cut off; new transactions wait at most `cut_wait` seconds for that. NEVER: it never is. 0: never with a hook
@@ -165,33 +168,38 @@ class SharedEngine(Uncopied):
 
     def _ask(self, function: Callable[..., int], *words: object) -> int:
         """Makes a call and returns its status."""
-        self._check_place()
-        status = function(self._shared, *words)
-        self._check_cut()
-        return status
+        return self._made(function, self._shared, *words)
 
     def _wait(self, function: Callable[..., int], *words: object) -> int:
         """The same for a call that may wait."""
+        return self._made(interruptible, function, self._shared, *words)
+
+    def _commit(self, ticket: CTicket, function: Callable[..., int], *words: object) -> int:
+        """The same for a call that may commit this transaction: then the hook `ended` is called."""
         self._check_place()
-        status = interruptible(function, self._shared, *words)
-        self._check_cut()
+        try:
+            status = self._made(interruptible, function, *words)
+        except Exception:  # what the hook `cutting` raised: the call may have been carried out all the same
+            self._report(ticket)
+            raise
+        if status == OK:
+            self._report(ticket)
         return status
 
+    def _made(self, call: Callable[..., _Result], *words: object) -> _Result:
+        """Makes a call. Raises what the hook `cutting` raises in it."""
+        self._check_place()
+        return self._cutter.made(call, *words) if self._cutter else call(*words)
+
     def _check_place(self) -> None:
-        """Raises Misuse in the hook of the engine."""
+        """Raises Misuse in the hook `ended`."""
         if self._teller and self._teller.is_here():
             raise Misuse()
-
-    def _check_cut(self) -> None:
-        """Raises what the hook `cutting` raised in a call of this thread."""
-        if self._cutter:
-            self._cutter.check()
 
     def _report(self, ticket: CTicket) -> None:
         """Calls the hook `ended`, if there is one, after a call for this transaction."""
         if self._teller:
-            self._teller.report(ticket_of(ticket))
-            self._check_cut()
+            self._made(self._teller.report, ticket_of(ticket))
 
     def run(self, procedure: int, *args: int, timeout: Optional[float] = None, tries: int = 0) -> Outcome:
         """Runs a procedure from its start to its commit. It waits and tries again as often as needed, or up to `tries` times.
@@ -202,8 +210,8 @@ class SharedEngine(Uncopied):
         given, outcome = (ctypes.c_int64 * 4)(), CSharedOutcome(size=ctypes.sizeof(CSharedOutcome))
         pack_args(given, args)
         options = CRunOptions(ctypes.sizeof(CRunOptions), nanoseconds(timeout), whole(tries, 0, 2**32 - 1))
-        check(self._wait(FREE.sgt_shared_run, whole(procedure, 0, 65535), given, len(args), options, outcome))
-        self._report(outcome.ticket)
+        words = self._shared, whole(procedure, 0, 65535), given, len(args), options, outcome
+        check(self._commit(outcome.ticket, FREE.sgt_shared_run, *words))
         ticket = ticket_of(outcome.ticket) if outcome.tries else None
         sequence = outcome.sequence if outcome.sequence < 2**64 - 1 else None
         return Outcome(reply_of(outcome.reply, outcome.reply), ticket, outcome.tries, outcome.waits, sequence)
@@ -217,7 +225,11 @@ class SharedEngine(Uncopied):
         raised, unless a conflict had come first; it may rest on a value that is undone. To refuse truthfully, return the refusal without a write:
         once that is committed, it is true. To abort, raise an exception of your own.
 
-        The body must not commit the transaction itself: Misuse. A body that is async or a generator is a TypeError.
+        The body must not commit the transaction itself: Misuse. A body that is async or a generator, or returns what is
+        awaited or a future, is a TypeError.
+
+        What a hook raises is raised in each case, unless the body catches it. Nothing is committed then, unless it was
+        raised in the commit.
 
         After `tries` conflicts the next try is made alone: others wait until it has ended, and it has no conflicts.
 
@@ -225,15 +237,13 @@ class SharedEngine(Uncopied):
         if no start is left; SelfWait; NoMemory, also if the body has caught that. Then nothing of it is left live. An interrupt ends the
         call too, and may come when it has been carried out.
         """
-        deadline = None if timeout is None else time.monotonic() + timeout
-        transaction, most = OwnTransaction(self), whole(tries, 0, 2**32 - 1)
+        deadline, most = deadline_in(timeout), whole(tries, 0, 2**32 - 1)
+        transaction = OwnTransaction(self)
         try:
-            result = transaction._run(body, most, deadline)
+            return transaction._run(body, most, deadline)
         except BaseException:
             transaction._abandon()
             raise
-        self._report(transaction._ticket)
-        return result
 
     @overload
     def transaction(self, *, timeout: Optional[float] = None) -> OwnTransaction: ...
@@ -336,16 +346,17 @@ class SharedEngine(Uncopied):
         """
         if not self._keeps:
             raise BadCall("the engine stores no calls: open it with keeps_ended")
+        wait_ns = nanoseconds(timeout)
         calls, count = (CEnded * whole(most, 1, 2**24))(), ctypes.c_uint64()
         taken: list[CEnded] = []
         try:
             taken = self._stored.take(most)
             if not taken and self._teller:
                 self.entries()  # raises Closed
-                self._stored.wait(timeout)
+                self._stored.wait(wait_ns)
                 taken = self._stored.take(most)
             elif not taken:
-                check(self._wait(FREE.sgt_shared_drain, nanoseconds(timeout), calls, most, count))
+                check(self._wait(FREE.sgt_shared_drain, wait_ns, calls, most, count))
                 taken = calls[: count.value]
             return list(map(ended_of, taken))
         except BaseException:
@@ -356,13 +367,18 @@ class SharedEngine(Uncopied):
         """Closes the engine. Later calls raise Closed, and so do calls that wait for its lock, or for a call to drain. Raises Busy if one
         waits for something else.
         """
-        if self._teller and not self._teller.is_here():
-            self._teller.report()
-        status = self._ask(FREE.sgt_shared_close)
+        status = self._made(self._shut)
         if status == BUSY:
             raise Busy("another thread waits in a call, or is in a hook, so the engine stays open")
         if status != CLOSED:
             check(status)
+
+    def _shut(self) -> int:
+        """Calls the hook `ended` for the last calls, closes the engine, and returns the status."""
+        if self._teller:
+            self._teller.report()
+        status: int = FREE.sgt_shared_close(self._shared)
+        return status
 
     def __enter__(self) -> SharedEngine:
         return self
@@ -386,10 +402,11 @@ class SharedEngine(Uncopied):
                 _OPEN_HOOKS.append(self._cutter)
 
 
-class Transaction:
+class Transaction(Uncopied):
     """A transaction of a shared engine. The end of a `with` block aborts it, unless it has ended before; so does the loss of the last
-    reference to it, wherever an interrupt comes."""
+    reference to it, wherever an interrupt comes. It can be neither copied nor pickled."""
 
+    _noun = "a transaction"
     _guard: Optional[weakref.ref[Transaction]] = None  # aborts it; no Python code runs then, in which an interrupt could come
 
     waits_for: Optional[int] = None
@@ -414,12 +431,11 @@ class Transaction:
         names the predecessor.
         """
         reported = CReply()
-        status = self._engine._wait(FREE.sgt_shared_commit, self._ticket, nanoseconds(timeout), reported)
+        engine, wait_ns = self._engine, nanoseconds(timeout)
+        status = engine._commit(self._ticket, FREE.sgt_shared_commit, engine._shared, self._ticket, wait_ns, reported)
         self.waits_for = reported.tid if reported.kind == Kind.WAITS else None
         check(status)
-        reply = self._replied(reported)
-        self._engine._report(self._ticket)
-        return reply
+        return self._replied(reported)
 
     def quit(self) -> Reply:
         """Aborts it."""

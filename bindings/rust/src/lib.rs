@@ -24,7 +24,7 @@ use convert::{fault_fields, fields_of, text_of};
 pub use engine::{BatchOutcome, Engine, Ran};
 pub use own::{OwnTransaction, TransactLimits};
 pub use sgt_sys::Ticket;
-pub use shared::{Configuration, Ended, Limits, Live, Outcome, SharedEngine, Transaction};
+pub use shared::{Configuration, CuttingHook, Ended, EndedHook, Limits, Live, Outcome, SharedEngine, Transaction};
 use sgt_sys as c;
 use std::fmt;
 

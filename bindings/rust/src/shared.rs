@@ -31,16 +31,27 @@ pub struct Live {
     pub waits: bool,
 }
 
+/// A hook that is called for each committed or refused call: [`Configuration::ended`].
+pub type EndedHook = Box<dyn FnMut(Ended) + Send>;
+
+/// A hook that is called before each cut: [`Configuration::cutting`].
+pub type CuttingHook = Box<dyn FnMut(&Engine, u64) + Send>;
+
 /// The configuration of a shared engine.
+///
+/// If a hook panics, so does the call in which it was called, and the engine goes on. A drop of a transaction and a
+/// drain call no hook.
 #[derive(Default)]
 pub struct Configuration {
-    /// Called for each committed or refused call, in reply order, under the engine's lock, by the call that it is. If it panics, so does
-    /// that call, which has been carried out; the engine goes on.
-    pub ended: Option<Box<dyn FnMut(Ended) + Send>>,
-    /// Called before each cut with the engine, whose history and database it may read, and with the number of the part that is cut off.
-    /// The engine's lock is held, so it may not call the shared engine. If it panics, so does the call that cuts, and there is no cut. If
-    /// memory is short the cut fails, and it is called again for the same part later.
-    pub cutting: Option<Box<dyn FnMut(&Engine, u64) + Send>>,
+    /// Called for each committed or refused call, in reply order, under the engine's lock, by the call that it is. If
+    /// it panics, this call has been carried out.
+    pub ended: Option<EndedHook>,
+    /// Called before each cut with the engine, whose history and database it may read, and with the number of the part
+    /// that is cut off. The engine's lock is held, so it may not call the shared engine. If it panics, there is no cut.
+    /// The call that was to cut has been carried out, unless it is [`SharedEngine::cut`], or was to cut before it
+    /// starts a transaction: then nothing was started. If memory is short the cut fails, and the hook is called again
+    /// for the same part later.
+    pub cutting: Option<CuttingHook>,
     /// Whether these calls are stored until [`SharedEngine::drain`] takes them.
     pub keeps_ended: bool,
     /// The history is cut off once it has this many entries and no transaction is live. [`NEVER`](crate::NEVER): never. 0: never with
@@ -77,8 +88,8 @@ pub struct Outcome {
 
 /// What the library calls, under its lock, so one thread at a time, and never one hook inside the other.
 struct Hooks {
-    ended: Option<Box<dyn FnMut(Ended) + Send>>,
-    cutting: Option<Box<dyn FnMut(&Engine, u64) + Send>>,
+    ended: Option<EndedHook>,
+    cutting: Option<CuttingHook>,
 }
 
 /// The part that all clones of an engine share.
@@ -245,7 +256,8 @@ impl SharedEngine {
         done(unsafe { c::sgt_shared_entries(self.at(), &mut count, std::ptr::null_mut()) }).map(|()| count)
     }
 
-    /// Takes at most `most` of the stored calls. Returns an empty list if none comes in time. `BadCall` if the engine stores none.
+    /// Takes at most `most` of the stored calls. Returns an empty list if none comes in time. `BadCall` if the engine
+    /// stores none. It calls no hook, so that nothing that was taken is lost.
     pub fn drain(&self, most: usize, wait: Option<Duration>) -> Result<Vec<Ended>, Error> {
         let (mut calls, mut count) = (vec![c::Ended::default(); most], 0);
         let (to, wait) = (calls.as_mut_ptr(), nanoseconds(wait));
@@ -316,7 +328,8 @@ impl Transaction {
 impl Drop for Transaction {
     fn drop(&mut self) {
         if self.is_live {
-            // The abort of a live transaction never fails, also inside the engine's hook. One that has ended or was cut off needs none.
+            // The abort of a live transaction never fails, also inside the engine's hook. One that has ended or was cut
+            // off needs none. It calls no hook, so it does not panic.
             let _ = unsafe { c::sgt_shared_abandon(self.engine.at(), &self.ticket) };
         }
     }

@@ -5,7 +5,7 @@
 use std::os::raw::{c_char, c_void};
 
 /// `SGT_VERSION`: the version of the headers.
-pub const VERSION: &str = "0.3.1";
+pub const VERSION: &str = "0.4.0";
 
 pub const OK: u32 = 0;
 pub const NO_MEMORY: u32 = 1;
