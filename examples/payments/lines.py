@@ -43,8 +43,11 @@ class Reader:
         self.first_rights: Rights = None if tokens is None or is_for_administrators else {}
         served = [it for it in procedures.values() if it.request and (is_for_administrators or not it.is_for_administrators)]
         orders = [(keys, it, [*map(keys.index, it.request)]) for it in served for keys in permutations(it.request)]
-        # By the keys of a request, in any order: its procedure, and what takes the arguments out of its values.
-        self.requests: dict[Any, tuple[Procedure, Any]] = {keys: (it, itemgetter(*places) if places != sorted(places) else tuple) for keys, it, places in orders}
+        # By the keys of a request, in any order: its procedure, what takes the arguments out of its values, and the bounds of each value.
+        self.requests: dict[Any, tuple[Procedure, Any, Any]] = {
+            keys: (it, itemgetter(*places) if places != sorted(places) else tuple, [it.bounds.get(key, (LEAST, MOST, "")) for key in keys])
+            for keys, it, places in orders
+        }
 
     def read(self, line: bytes, client: Client) -> Line:
         """What a line of a client asks for. With a token the client has that one's rights from then on."""
@@ -67,16 +70,15 @@ class Reader:
         if type(pairs) is not tuple or not pairs:
             return NO_REQUEST
         keys, values = zip(*pairs)
-        found = self.requests.get(keys)
-        for value in values:  # twice as fast as by `all`
-            if type(value) is not int or not LEAST <= value <= MOST:
-                found = None
-        if found:
+        if found := self.requests.get(keys):
+            for value, (least, most, why) in zip(values, found[2]):  # twice as fast as by `all`
+                if type(value) is not int or not least <= value <= most:
+                    return json.dumps({"error": why if type(value) is int and LEAST <= value <= MOST else NO_NUMBERS})
             return NO_RIGHT if rights is not None and not may(rights, found[0], dict(pairs)) else (found[0], found[1](values))
         if self.takes_words and len(pairs) == 1 and isinstance(values[0], int) and LEAST <= values[0] <= MOST:
             return dict(pairs)
         why = (NO_NUMBERS if self.takes_words else NOT_HERE) if (*sorted(keys),) in self.known else f"no request has the keys {', '.join(keys)}"
-        return json.dumps({"error": NO_NUMBERS if keys in self.requests else why})
+        return json.dumps({"error": why})
 
 
 def may(rights: dict[str, list[list[int]]], procedure: Procedure, asked: dict[str, int]) -> bool:
