@@ -14,7 +14,7 @@ LONGEST = 10_000  # bytes of a line
 TOO_LONG = f'{{"error": "a line has at most {LONGEST} bytes"}}'
 NO_REQUEST = '{"error": "a line is one JSON object with keys, or a list of such objects"}'
 NO_NUMBERS, NOT_HERE = "a value is a whole number of at most fifteen digits", "only administrators may ask for this, at their own socket"
-NO_RIGHT = '{"error": "no right to this"}'
+NO_RIGHT, ANY = '{"error": "no right to this"}', (LEAST, MOST, "")
 # A value, and where it ends: three times as fast as `json.loads`. An object is a tuple of pairs, as it may have a key twice.
 read_json = json.JSONDecoder(object_pairs_hook=tuple).scan_once
 Rights = Optional[dict[str, list[list[int]]]]  # by "pay" and "read": from which account to which; None if all is allowed
@@ -44,10 +44,9 @@ class Reader:
         served = [it for it in procedures.values() if it.request and (is_for_administrators or not it.is_for_administrators)]
         orders = [(keys, it, [*map(keys.index, it.request)]) for it in served for keys in permutations(it.request)]
         # By the keys of a request, in any order: its procedure, what takes the arguments out of its values, and the bounds of each value.
-        self.requests: dict[Any, tuple[Procedure, Any, Any]] = {
-            keys: (it, itemgetter(*places) if places != sorted(places) else tuple, [it.bounds.get(key, (LEAST, MOST, "")) for key in keys])
-            for keys, it, places in orders
-        }
+        self.requests: dict[Any, tuple[Procedure, Any, Any]] = {}
+        for keys, it, places in orders:
+            self.requests[keys] = it, itemgetter(*places) if places != sorted(places) else tuple, [it.bounds.get(key, ANY) for key in keys]
 
     def read(self, line: bytes, client: Client) -> Line:
         """What a line of a client asks for. With a token the client has that one's rights from then on."""

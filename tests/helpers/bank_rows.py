@@ -24,6 +24,11 @@ STEP = 16
 PAID, HELD, CAPTURED, VOIDED, REFUNDED, CAPTURED_AND_REFUNDED, REFUSED_HOLD, CREDITED = 0, 1, 2, 3, 4, 5, 6, 7
 
 
+def own(account, number):
+    """The id that has this number among those of an account."""
+    return account * OF_ACCOUNT + number
+
+
 def tables(rows):
     """The records of a database, by table."""
     found: list = [{} for _ in range(8)]
