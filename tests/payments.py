@@ -85,14 +85,15 @@ class Server:
     def __enter__(self):
         return self
 
-    def __exit__(self, *_):
+    def __exit__(self, failure, *_):
         self.process.kill()
         try:
             self.process.communicate(timeout=SECONDS)  # until its front processes have ended, too
         except subprocess.TimeoutExpired:
             raise Differs("a front process goes on without the server") from None
         self.await_end()
-        judge_folder(self.folder)
+        if not failure:
+            judge_folder(self.folder)
 
     def await_end(self):
         """Waits until a next one may have its folder, and its port if that was named: its processes end one after another."""
