@@ -19,7 +19,8 @@ import sys
 sys.dont_write_bytecode = True
 # The test program beside this one: it comes first, as the folder of the example has a program of that name, too.
 from payments import PAYMENTS, PROCEDURES, Partitions, Server, ask, asked, gift_of_page, pay, run, scratch  # noqa: E402
-from helpers.bank_rows import SPENT, judge, own, tables  # noqa: E402
+from helpers.bank_model import Model  # noqa: E402
+from helpers.bank_rows import BALANCES, SPENT, judge, own, tables  # noqa: E402
 from helpers.cases import TESTS, Differs, same, run_cases  # noqa: E402
 from bank import OUTCOME, ROW, Bank, load_procedures  # noqa: E402
 from lines import Client, Reader  # noqa: E402
@@ -399,11 +400,12 @@ ASKED = [name for name, it in FILES.items() if it.request and not it.is_for_admi
 
 
 class Desk:
-    """A reader of lines and a bank: what a server is, without its processes."""
+    """A reader of lines and a bank: what a server is, without its processes. A model says what the bank has to answer."""
 
     def __init__(self, accounts):
         self.bank, self.client, self.reader = bank_of(accounts), Client(None, 0, None), Reader(FILES, None, False)
-        self.money, self.inputs, self.done, self.first = len(accounts) * CENTS, 0, 0, {}
+        self.money, self.inputs, self.done, self.model = len(accounts) * CENTS, 0, 0, Model(accounts, CENTS)
+        self.model.run("day", DAY)
 
     def answer(self, line):
         """The reply to a line."""
@@ -422,19 +424,20 @@ class Desk:
         return procedure.reply(outcome, args[0], "")
 
     def run(self, name, *args):
-        """Runs a call. What was done once has the same answer again; a hold that was voided says its state, too."""
+        """Runs a call. A payment that was refused has an answer more, which nobody gets."""
         (outcome,) = OUTCOME.iter_unpack(self.bank.run(pack_calls([(self.bank.numbers[name], *args)]), [name])[0])
-        if outcome[0] != Kind.COMMITTED:
-            return outcome
-        if name == "open":
-            self.money += args[1]
-        if name in ("pay", "hold", "capture", "void", "refund", "note", "credit", "decline") and outcome[3] != -7:
-            answers = outcome[3 : 3 + min(outcome[2], FILES[name].most - (name == "hold"))]
-            same(f"{name} {args} again", self.first.setdefault((name, *args), answers), answers)
-        elif name in ("set_day", "day"):
-            self.first = {}  # what is old may be forgotten
-        self.done += 1
+        is_done = outcome[0] == Kind.COMMITTED
+        code, answers = (0, list(outcome[3 : 3 + outcome[2]])) if is_done else (outcome[1], [])
+        came = is_done, code, answers[:1] if name == "pay" and answers and answers[0] < 0 else answers
+        same(f"{name} {args}", self.model.run(name, *args), came)
+        self.money += args[1] if name == "open" and is_done else 0
+        self.done += is_done
         return outcome
+
+    def judge(self):
+        """The database is right, and has what the model has."""
+        judge(self.bank.rows(), self.money)
+        same("the balances", self.model.has, tables(self.bank.rows())[BALANCES])
 
 
 def fuzz(rounds, seed):
@@ -450,7 +453,7 @@ def fuzz(rounds, seed):
                 else:
                     json.loads(desk.answer(lines.line()))
                 if step % 50 == 49:
-                    judge(desk.bank.rows(), desk.money)
+                    desk.judge()
         except (Differs, ValueError) as why:
             raise Differs(f"round {number} of seed {seed}, input {desk.inputs}: {why}") from None
         inputs, done = inputs + desk.inputs, done + desk.done
@@ -473,7 +476,7 @@ def lines_to_a_server(rounds, seed):
                 same(f"the reply to {line!r}", must, came)
             count += len(sent)
         same("the rows", hashlib.sha256(desk.bank.rows()).hexdigest(), ask(folder / "j" / "admin", "rows")["sha256"])
-        judge(desk.bank.rows(), desk.money)
+        desk.judge()
         same("verify", 0, run("verify", folder / "j")[0])
     return f"{count} lines"
 
