@@ -28,7 +28,7 @@ from partitions import CLEARING  # noqa: E402
 from sgt import LEAST, MOST, Engine, Kind, pack_calls  # noqa: E402
 
 FILES = load_procedures(PAYMENTS / "procedures")
-DAY, CENTS = 20_000, 1_000_000
+DAY, CENTS, LIMIT = 20_000, 2_500_000, 1_000_000
 NO_ACCOUNT, NO_ID = "an account is a number from 0 to 999999999", "an id is a number from 1 on"
 # Numbers that are no account: of an id, of a place, of a day, of an account and a day, and the ends of what a value may be.
 STRANGE = (-1, -2, -3, -16, -own(1, 1), own(1, 1), -own(2, 2), -100_000 - DAY, -(10**9), 10**9, -(10**10), 10**12, MOST, LEAST)
@@ -271,6 +271,29 @@ def limits_of_days():
     judge(bank.rows(), 3 * 10**9)
 
 
+def edges():
+    """A payment takes exactly what the payer has, as much as the limit of the day, and what the payee has digits for; and no cent more."""
+    for amount in (1, 99, 100, 101, 199, 200, 12_345, 99_999):
+        for name, number in (("pay", 1), ("hold", 2)):
+            for more, code in ((0, 0), (-1, -5)):
+                bank = bank_of([0, 2], 0)
+                call(bank, "open", 1, amount + amount // 100 + more)
+                same(f"{name} of {amount} with {more}", min(code, 0), min(call(bank, name, own(1, number), 1, 2, amount)[2][0], 0))
+        for name, number in (("pay", 3), ("hold", 4), ("credit", 5)):
+            for more, code in ((0, 0), (1, -10)):
+                bank = bank_of([0, 1], CENTS)
+                call(bank, "open", 2, MOST - amount + more)
+                same(f"{name} of {amount} to {MOST - amount + more}", code, min(call(bank, name, own(1, number), 1, 2, amount)[2][0], 0))
+    for name in ("pay", "hold"):
+        for first in (1, 500_000, LIMIT - 1):
+            bank = bank_of([0, 1, 2], 9 * LIMIT)
+            steps = ((first, True), (LIMIT - first + 1, False), (LIMIT - first, True), (1, False))
+            done = [call(bank, name, own(1, number), 1, 2, amount)[2][0] >= 0 for number, (amount, _) in enumerate(steps)]
+            same(f"{name} up to the limit from {first} on", [is_done for _, is_done in steps], done)
+    bank = bank_of([0])
+    same("the first and the last day", [True, True], [call(bank, "set_day", day)[0] for day in (0, 99_999)])
+
+
 def ends(folder, here, there, *request):
     """What the command for operators says of a payment between two partitions: by their numbers, and the folders of both."""
     words = [here, folder / "0" / "admin", there, folder / "1" / "admin", *request]
@@ -333,15 +356,15 @@ def cookbook():
 class Lines:
     """Draws lines, valid and hostile ones, of few accounts and ids, so that they meet."""
 
-    AMOUNTS = (1, 2, 99, 100, 101, 5_000, 10**6, 10**6 - 1, 0, -1, -100, 10**7, MOST, LEAST)
-    ACCOUNTS = (0, 1, 2, 3, CLEARING + 1)
+    AMOUNTS = (1, 2, 99, 100, 101, 5_000, LIMIT, LIMIT - 1, 0, -1, -100, 10**7, MOST, LEAST)
+    RICH, ACCOUNTS = 6, (0, 1, 2, 3, CLEARING + 1)  # the rich one has nearly as much as has digits
     OTHERS = (1.5, True, None, "1", [], {}, 10**15, -(10**15))
 
     def __init__(self, draw):
         self.draw = draw
 
     def account(self):
-        return self.draw.choice(self.ACCOUNTS) if self.draw.random() < 0.85 else self.draw.choice((7, 16, *STRANGE))
+        return self.draw.choice((*self.ACCOUNTS, self.RICH)) if self.draw.random() < 0.85 else self.draw.choice((7, 16, *STRANGE))
 
     def number(self, payer):
         """An id, most of the time of the payer."""
@@ -406,6 +429,7 @@ class Desk:
         self.bank, self.client, self.reader = bank_of(accounts), Client(None, 0, None), Reader(FILES, None, False)
         self.money, self.inputs, self.done, self.model = len(accounts) * CENTS, 0, 0, Model(accounts, CENTS)
         self.model.run("day", DAY)
+        self.run("open", Lines.RICH, MOST - 1_000)
 
     def answer(self, line):
         """The reply to a line."""
@@ -467,8 +491,7 @@ def lines_to_a_server(rounds, seed):
     count = 0
     with scratch() as folder, Server("serve", folder / "j", "--accounts", 4, "--cents", CENTS) as server:
         desk, lines = Desk(range(4)), Lines(random.Random(f"{seed} server"))
-        same("an account", True, ask(folder / "j" / "admin", "open", CLEARING + 1, amount=0)["opened"])
-        desk.run("open", CLEARING + 1, 0)
+        same("an account", True, ask(folder / "j" / "admin", "open", Lines.RICH, amount=MOST - 1_000)["opened"])
         for _ in range(rounds):
             sent = [it for it in (lines.line() for _ in range(100)) if it.strip()]
             wanted = [json.loads(desk.answer(it)) for it in sent]
@@ -493,7 +516,7 @@ def main():
         return lines_to_a_server(rounds, seed)
 
     cases = [negative_numbers, cents_to_numbers, wrong_refunds, old_ids, strange_calls, strange_lines, no_account_zero, ids_of_others, credited_ids]
-    cases += [days_of_limits, limits_of_days, held_between_partitions, cookbook, hostile_calls, hostile_lines]
+    cases += [days_of_limits, limits_of_days, edges, held_between_partitions, cookbook, hostile_calls, hostile_lines]
     return run_cases([case for case in cases if not names or case.__name__ in names], of="payments accounts")
 
 
