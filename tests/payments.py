@@ -401,16 +401,17 @@ def owing():
         between, much = partition.CLEARING + 1, "the payer does not have that much"
         same("an account", {"open": between, "opened": True, "has": 0}, ask(folder / "j" / "admin", "open", between, amount=0))
         wanted = [
-            ({"credit": 1, "from": between, "to": 1, "amount": 500}, {"credit": 1, "credited": True, "to_has": 100_500}),
+            ({"credit": 5_000_001, "from": between, "to": 1, "amount": 500}, {"credit": 5_000_001, "credited": True, "to_has": 100_500}),
+            ({"credit": 3_000_001, "from": between, "to": 1, "amount": 5}, {"credit": 3_000_001, "refused": "the id is none of the payer's account"}),
             ({"balance": between}, {"balance": between, "has": -500}),
             ({"hold": 2_000_002, "from": 2, "to": between, "amount": 100}, {"hold": 2_000_002, "held": True, "from_has": 99_899}),
             ({"capture": 2_000_002, "to": between}, {"capture": 2_000_002, "captured": True, "to_has": -400}),
             (pay(3, 2, between, 100), {"id": 2_000_003, "paid": True, "from_has": 99_798, "to_has": -300}),
             (pay(4, between, 2, 1), {"id": own(between, 4), "refused": much}),
             ({"hold": own(between, 5), "from": between, "to": 2, "amount": 1}, {"hold": own(between, 5), "refused": much}),
-            ({"credit": 6, "from": 1, "to": between, "amount": 100}, {"credit": 6, "refused": "there is no such payee, or it owes"}),
+            ({"credit": 1_000_006, "from": 1, "to": between, "amount": 100}, {"credit": 1_000_006, "refused": "there is no such payee, or it owes"}),
             ({"hold": 2_000_007, "from": 2, "to": 9, "amount": 1}, {"hold": 2_000_007, "refused": "there is no such payee"}),
-            ({"credit": 8, "from": 1, "to": 9, "amount": 1}, {"credit": 8, "refused": "there is no such payee, or it owes"}),
+            ({"credit": 1_000_008, "from": 1, "to": 9, "amount": 1}, {"credit": 1_000_008, "refused": "there is no such payee, or it owes"}),
         ]
         asked(server, wanted)
         same("an account again", "there is such an account already", ask(folder / "j" / "admin", "open", between, amount=0)["refused"])
@@ -481,8 +482,8 @@ def removals():
     bank, day = Bank(0, PROCEDURES, b"".join(ROW.pack(*row) for row in opened)), 20_000
     calls = [("day", day), ("pay", 1_000_001, 1, 2, 100), ("pay", 1_000_002, 1, 2, 10**7), ("hold", 1_000_003, 1, 2, 100), ("hold", 1_000_004, 1, 2, 100), ("capture", 1_000_004, 2)]
     calls += [("hold", 1_000_005, 1, 2, 100), ("void", 1_000_005, 2), ("pay", 1_000_006, 1, 2, 100), ("refund", 1_000_006, 2), ("hold", 1_000_007, 1, 2, 100), ("capture", 1_000_007, 2), ("refund", 1_000_007, 2)]
-    calls += [("pay", 2_000_008, 2, 3, 100), ("note", 2_000_008, 2, -1, 0), ("credit", 9, 1, 2, 100), ("credit", 10, 1, 9, 100), ("hold", 1_000_011, 1, 2, 10**7), ("pay", 4_000_012, 4, 3, 7)]
-    calls += [("note", 9, 1, 1, 1), ("decline", 13, 7, 1, 5), ("set_day", day + 1), ("set_day", day + 91), *[("forget",)] * 13]
+    calls += [("pay", 2_000_008, 2, 3, 100), ("note", 2_000_008, 2, -1, 0), ("credit", 1_000_009, 1, 2, 100), ("credit", 1_000_010, 1, 9, 100), ("hold", 1_000_011, 1, 2, 10**7), ("pay", 4_000_012, 4, 3, 7)]
+    calls += [("note", 1_000_009, 1, 1, 1), ("decline", 7_000_013, 7, 1, 5), ("set_day", day + 1), ("set_day", day + 91), *[("forget",)] * 13]
     bank.replay(calls)
     there, forgets, missing = {row[:2] for row in opened}, set(), []
     for place in range(len(bank.engine)):

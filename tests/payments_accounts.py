@@ -219,6 +219,8 @@ def ids_of_others():
             ({"id": own(1, 17), "from": 9, "to": 2, "amount": 5}, {"id": own(1, 17), "refused": none}),
             ({"hold": own(1, 17), "from": 9, "to": 2, "amount": 5}, {"hold": own(1, 17), "refused": none}),
             ({"id": 17, "from": 9, "to": 2, "amount": 5}, {"id": 17, "refused": none}),
+            ({"credit": own(1, 17), "from": 9, "to": 2, "amount": 5}, {"credit": own(1, 17), "refused": none}),
+            ({"decline": own(1, 17), "from": 9, "to": 2, "amount": 5}, {"decline": own(1, 17), "refused": none}),
             (pay(17, 9, 2, 5), {"id": own(9, 17), "refused": "the payer does not have that much"}),
             (pay(17, 1, 2, 250), {"id": own(1, 17), "paid": True, "from_has": 99_748, "to_has": 100_250}),
             ({"hold": own(1, 18), "from": 1, "to": 2, "amount": 10}, {"hold": own(1, 18), "held": True, "from_has": 99_738}),
@@ -361,27 +363,32 @@ class Lines:
     OTHERS = (1.5, True, None, "1", [], {}, 10**15, -(10**15))
 
     def __init__(self, draw):
-        self.draw = draw
+        self.draw, self.made = draw, []  # payments that were asked for: their ids, payers, payees and amounts
 
     def account(self):
         return self.draw.choice((*self.ACCOUNTS, self.RICH)) if self.draw.random() < 0.85 else self.draw.choice((7, 16, *STRANGE))
 
     def number(self, payer):
         """An id, most of the time of the payer."""
-        payer = payer if self.draw.random() < 0.85 and 0 <= payer < 10**9 else self.draw.choice(self.ACCOUNTS)
+        payer = payer if self.draw.random() < 0.85 and 0 <= payer < 10**9 else self.draw.choice((*self.ACCOUNTS, 8, 9))
         return own(payer, self.draw.randrange(6)) if self.draw.random() < 0.93 else self.draw.choice((0, *STRANGE))
 
     def args(self, name):
-        """Arguments of a procedure, by the keys of its request."""
+        """Arguments of a procedure, by the keys of its request. Most are of a payment that was asked for, some are not."""
         payer, file = self.account(), FILES[name]
-        found = {}
-        for key in file.request:
-            if file.bounds.get(key, (0,))[0] == 1 or key == "before":
-                found[key] = self.number(payer)
-            elif key in file.bounds:
-                found[key] = payer if key == "from" else self.account()
-            else:
-                found[key] = self.draw.choice(self.AMOUNTS)
+        drawn = self.number(payer), payer, self.account(), self.draw.choice(self.AMOUNTS)
+        is_new = name in ("pay", "hold", "credit", "decline") and self.draw.random() < 0.7
+        if self.made and not is_new and self.draw.random() < 0.8:
+            drawn = self.draw.choice(self.made[-8:])
+        if is_new:
+            self.made.append(drawn)
+        number, payer, payee, amount = drawn
+        found = {"from": payer, "to": payee, "amount": amount, "account": self.draw.choice((payer, payee)), "before": self.draw.choice((0, number))}
+        found |= {key: payee for key in ("balance", "statement", "open")} | {key: self.draw.choice(self.AMOUNTS) for key in ("time", "reference")}
+        found = {key: found.get(key, number) for key in file.request}
+        if found and self.draw.random() < 0.15:
+            key = self.draw.choice(file.request)
+            found[key] = self.draw.choice((self.account(), self.number(payer), *self.AMOUNTS))
         return found
 
     def request(self):

@@ -122,7 +122,7 @@ class Model:
         return [made.from_has]
 
     def credit(self, number, payer, payee, amount, declines=False):
-        ask_unless(number >= 1, 11)
+        ask_unless(number >= 1 and (number // OF_ACCOUNT == payer or number // OF_ACCOUNT not in self.has), 11)
         if made := self.ids.get(number):
             ask_unless((made.payer, made.payee, made.amount, made.state) == (payer, payee, amount, CREDITED), 7)
             return [-made.code] if made.code else [made.to_has]
