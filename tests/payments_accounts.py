@@ -377,9 +377,9 @@ class Lines:
         """Arguments of a procedure, by the keys of its request. Most are of a payment that was asked for, some are not."""
         payer, file = self.account(), FILES[name]
         drawn = self.number(payer), payer, self.account(), self.draw.choice(self.AMOUNTS)
-        is_new = name in ("pay", "hold", "credit", "decline") and self.draw.random() < 0.7
+        is_new = name in ("pay", "hold", "credit", "decline") and self.draw.random() < 0.5
         if self.made and not is_new and self.draw.random() < 0.8:
-            drawn = self.draw.choice(self.made[-8:])
+            drawn = self.draw.choice(self.made[-self.draw.choice((1, 2, 8)) :])
         if is_new:
             self.made.append(drawn)
         number, payer, payee, amount = drawn
