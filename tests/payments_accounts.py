@@ -358,7 +358,7 @@ def cookbook():
 class Lines:
     """Draws lines, valid and hostile ones, of few accounts and ids, so that they meet."""
 
-    AMOUNTS = (1, 2, 99, 100, 101, 5_000, LIMIT, LIMIT - 1, 0, -1, -100, 10**7, MOST, LEAST)
+    AMOUNTS = (*(1, 2, 99, 100, 101, 5_000) * 4, LIMIT, LIMIT - 1, 0, -1, -100, 10**7, MOST, LEAST)
     RICH, ACCOUNTS = 6, (0, 1, 2, 3, CLEARING + 1)  # the rich one has nearly as much as has digits
     OTHERS = (1.5, True, None, "1", [], {}, 10**15, -(10**15))
 
@@ -393,7 +393,7 @@ class Lines:
 
     def request(self):
         """A request of a procedure: now and then with a key that is missing, too much or wrong, or a value that is no number."""
-        name = self.draw.choice([*ASKED, "pay", "hold"])
+        name = self.draw.choice([*ASKED, "pay", *("hold", "capture", "void", "refund") * 2])
         pairs = [*self.args(name).items()]
         self.draw.shuffle(pairs)
         trick, at = self.draw.randrange(60), self.draw.randrange(len(pairs))
