@@ -1,11 +1,13 @@
 #!/usr/bin/env python3
-"""Tests the numbers that the queue of payments of `examples/payments` takes: accounts, ids and amounts, and all that is none.
+"""Tests which numbers the queue of payments of `examples/payments` takes: accounts, ids and amounts, and none else.
 
     tests/payments_accounts.py [ROUNDS [SEED]] [CASE..]
 
-What holds of every database there stands in `helpers/bank_rows.py`. These cases ask for what would break it: payments from and to the numbers
-of ids, every command with every number that is no account, ids of others, holds between partitions that stay; then they send ROUNDS times (40)
-some hundred lines, valid and hostile ones. Each case is reported, and the last line counts them. With names of cases only those run.
+What holds of every database there stands in `helpers/bank_rows.py`. These cases ask for what would break it: payments
+from and to the numbers of ids, every command with every number that is no account, ids of others, holds between
+partitions that stay. Then they send ROUNDS times (40) some hundred lines, valid and hostile ones, and compare each
+reply with a model, `helpers/bank_model.py`. Each case is reported, and the last line counts them. With names of cases
+only those run.
 """
 
 import ast
@@ -30,8 +32,23 @@ from sgt import LEAST, MOST, Engine, Kind, pack_calls  # noqa: E402
 FILES = load_procedures(PAYMENTS / "procedures")
 DAY, CENTS, LIMIT = 20_000, 2_500_000, 1_000_000
 NO_ACCOUNT, NO_ID = "an account is a number from 0 to 999999999", "an id is a number from 1 on"
-# Numbers that are no account: of an id, of a place, of a day, of an account and a day, and the ends of what a value may be.
-STRANGE = (-1, -2, -3, -16, -own(1, 1), own(1, 1), -own(2, 2), -100_000 - DAY, -(10**9), 10**9, -(10**10), 10**12, MOST, LEAST)
+# Numbers that are no account: of an id, a payment or a day, and the ends of what a value may be.
+STRANGE = (
+    -1,
+    -2,
+    -3,
+    -16,
+    -own(1, 1),
+    own(1, 1),
+    -own(2, 2),
+    -100_000 - DAY,
+    -(10**9),
+    10**9,
+    -(10**10),
+    10**12,
+    MOST,
+    LEAST,
+)
 
 
 def balances(server, accounts):
@@ -45,12 +62,18 @@ def negative_numbers():
         made = [pay(number, 1, 2, 10) for number in range(1, 41)]
         first, had = server.ask(*made), balances(server, range(10))
         for number, it in enumerate(made, 1):
-            came = server.ask(*[{"id": own(3, number), "from": -it["id"], "to": 7, "amount": amount} for amount in (number, 1)])
+            came = server.ask(
+                *[{"id": own(3, number), "from": -it["id"], "to": 7, "amount": amount} for amount in (number, 1)]
+            )
             same("payments from below the number of an id", [{"error": f"from: {NO_ACCOUNT}"}] * 2, came)
             came = server.ask({"id": own(3, number), "from": 3, "to": -it["id"], "amount": 1})
             same("a payment to below the number of an id", [{"error": f"to: {NO_ACCOUNT}"}], came)
             came = server.ask({**it, "from": it["id"], "amount": 1}, pay(number, 3, it["id"], 1))
-            same("payments from and to the number of an id", ["the id is none of the payer's account", "there is no such payee"], [reply["refused"] for reply in came])
+            same(
+                "payments from and to the number of an id",
+                ["the id is none of the payer's account", "there is no such payee"],
+                [reply["refused"] for reply in came],
+            )
         same("the balances", had, balances(server, range(10)))
         same("what is said again", first, server.ask(*made))
 
@@ -70,7 +93,7 @@ def by(server, token, *requests):
 
 
 def cents_to_numbers():
-    """With tokens too: a cent to the number of an id, or of the day, is no payment. Replies stay, holds can be captured, the day goes on."""
+    """With tokens too a cent to the number of an id, or of the day, is no payment, and changes no reply and no hold."""
     with scratch() as folder, shop(folder, shop=[[0, 4]], thief=[[5, 5]]) as server:
         hold = {"hold": own(1, 2), "from": 1, "to": 2, "amount": 500}
         first = by(server, "shop", pay(1, 1, 2, 1000), hold, pay(1, 0, 4, 5))
@@ -99,7 +122,7 @@ def wrong_refunds():
 
 
 def old_ids():
-    """What is old is forgotten, whatever somebody has paid to the number of an id: that it is another's would end all forgetting."""
+    """What is old is forgotten, whatever somebody has paid to the number of an id, which must not become another's."""
     with scratch() as folder, Server("serve", folder / "j", "--accounts", 10) as server:
         admin, made = folder / "j" / "admin", [pay(number, 1, 2, 10) for number in range(1, 6)]
         server.ask(*made, {"id": own(5, 1), "from": 5, "to": -own(1, 1), "amount": 1})
@@ -134,20 +157,33 @@ def made_bank():
     for name, *args in calls:
         same(f"{name} {args}", True, call(bank, name, *args)[0])
     valid = {"pay": (own(3, 9), 3, 2, 7), "hold": (own(3, 8), 3, 2, 7), "credit": (own(9, 2), CLEARING + 1, 2, 7)}
-    valid |= {"decline": (own(9, 3), CLEARING + 1, 2, 7), "capture": (own(1, 2), 2), "void": (own(1, 2), 2), "refund": (own(1, 1), 2)}
-    valid |= {"note": (own(1, 2), 1, 8, 9), "payment": (own(1, 1), 1), "statement": (1, 0), "open": (7, 5), "balance": (1,)}
+    valid |= {
+        "decline": (own(9, 3), CLEARING + 1, 2, 7),
+        "capture": (own(1, 2), 2),
+        "void": (own(1, 2), 2),
+        "refund": (own(1, 1), 2),
+    }
+    valid |= {
+        "note": (own(1, 2), 1, 8, 9),
+        "payment": (own(1, 1), 1),
+        "statement": (1, 0),
+        "open": (7, 5),
+        "balance": (1,),
+    }
     return bank, valid
 
 
 def strange_calls():
-    """Each procedure, called straight, with each number that is none of its own in the place of each argument: it changes nothing wrong."""
+    """Each procedure, called straight, with each strange number as each argument: no account, no change."""
     bank, valid = made_bank()
     rows, count = bank.rows(), 0
     same("the procedures that are tried", sorted(name for name, it in FILES.items() if it.request), sorted(valid))
     for name, args in valid.items():
         for place, key in enumerate(FILES[name].request):
             for strange in (0, *STRANGE):
-                is_own = key in FILES[name].bounds and FILES[name].bounds[key][0] <= strange <= FILES[name].bounds[key][1]
+                is_own = (
+                    key in FILES[name].bounds and FILES[name].bounds[key][0] <= strange <= FILES[name].bounds[key][1]
+                )
                 done, code, answers = call(bank, name, *args[:place], strange, *args[place + 1 :])
                 count += 1
                 if key in FILES[name].bounds and not is_own:
@@ -169,7 +205,7 @@ def money_of(bank, before):
 
 
 def strange_lines():
-    """Each command, at the port and of an administrator, with each value that is no account or no id: an error names it, and nothing changes."""
+    """Each command, at both sockets, with each value that is no account or no id: an error names it."""
     others = (1.5, 1e3, True, None, "1", [1], {}, 10**15, -(10**15), 10**400)
     no_number = {"error": "a value is a whole number of at most fifteen digits"}
     with scratch() as folder, Server("serve", folder / "j", "--accounts", 4) as server:
@@ -179,9 +215,21 @@ def strange_lines():
         rows, (_, valid) = ask(admin, "rows"), made_bank()
         for name, args in valid.items():
             for place, key in enumerate(FILES[name].request):
-                lines = [dict(zip(FILES[name].request, (*args[:place], it, *args[place + 1 :]))) for it in (*STRANGE, 0, *others)]
-                bad = [it for it in lines if it[key] in others or key in FILES[name].bounds and not is_in(it[key], FILES[name].bounds[key])]
-                wanted = [no_number if type(it[key]) is not int or abs(it[key]) > MOST else {"error": FILES[name].bounds[key][2]} for it in bad]
+                lines = [
+                    dict(zip(FILES[name].request, (*args[:place], it, *args[place + 1 :])))
+                    for it in (*STRANGE, 0, *others)
+                ]
+                bad = [
+                    it
+                    for it in lines
+                    if it[key] in others or key in FILES[name].bounds and not is_in(it[key], FILES[name].bounds[key])
+                ]
+                wanted = [
+                    no_number
+                    if type(it[key]) is not int or abs(it[key]) > MOST
+                    else {"error": FILES[name].bounds[key][2]}
+                    for it in bad
+                ]
                 at_socket = [ask(admin, *first_of(it)[0], **first_of(it)[1]) for it in bad]
                 same(f"{name} with {key}, of an administrator", wanted, at_socket)
                 if not FILES[name].is_for_administrators:
@@ -205,13 +253,21 @@ def no_account_zero():
     """Where there is no account 0, it is as any other that is not there."""
     bank = bank_of([1, 2, 3])
     rows = bank.rows()
-    for name, *args in (("pay", own(1, 1), 1, 0, 5), ("hold", own(1, 1), 1, 0, 5), ("pay", 1, 0, 1, 5), ("credit", 1, 0, 1, 5), ("balance", 0), ("statement", 0, 0), ("pay", own(1, 1), 1, 2, 5)):
+    for name, *args in (
+        ("pay", own(1, 1), 1, 0, 5),
+        ("hold", own(1, 1), 1, 0, 5),
+        ("pay", 1, 0, 1, 5),
+        ("credit", 1, 0, 1, 5),
+        ("balance", 0),
+        ("statement", 0, 0),
+        ("pay", own(1, 1), 1, 2, 5),
+    ):
         same(f"{name} {args}", (False, True), (lambda it: (it[0], it[1] > 0))(call(bank, name, *args)))
         same(f"the rows after {name} {args}", rows, bank.rows())
 
 
 def ids_of_others():
-    """An id is of its payer's account: whoever asks with another's is refused, nothing is remembered, and its owner is paid."""
+    """Whoever asks with the id of another account is refused, nothing is remembered, and the id's owner can pay."""
     with scratch() as folder, Server("serve", folder / "j", "--accounts", 3) as server:
         same("an account", True, ask(folder / "j" / "admin", "open", 9, amount=0)["opened"])
         none = "the id is none of the payer's account"
@@ -223,8 +279,14 @@ def ids_of_others():
             ({"decline": own(1, 17), "from": 9, "to": 2, "amount": 5}, {"decline": own(1, 17), "refused": none}),
             (pay(17, 9, 2, 5), {"id": own(9, 17), "refused": "the payer does not have that much"}),
             (pay(17, 1, 2, 250), {"id": own(1, 17), "paid": True, "from_has": 99_748, "to_has": 100_250}),
-            ({"hold": own(1, 18), "from": 1, "to": 2, "amount": 10}, {"hold": own(1, 18), "held": True, "from_has": 99_738}),
-            ({"id": own(1, 999_999), "from": 1, "to": 2, "amount": 1}, {"id": own(1, 999_999), "paid": True, "from_has": 99_737, "to_has": 100_251}),
+            (
+                {"hold": own(1, 18), "from": 1, "to": 2, "amount": 10},
+                {"hold": own(1, 18), "held": True, "from_has": 99_738},
+            ),
+            (
+                {"id": own(1, 999_999), "from": 1, "to": 2, "amount": 1},
+                {"id": own(1, 999_999), "paid": True, "from_has": 99_737, "to_has": 100_251},
+            ),
             ({"id": own(2, 0), "from": 1, "to": 2, "amount": 1}, {"id": own(2, 0), "refused": none}),
             (pay(17, 9, 2, 5), {"id": own(9, 17), "refused": "the payer does not have that much"}),
         ]
@@ -232,12 +294,21 @@ def ids_of_others():
 
 
 def credited_ids():
-    """A credit is no payment and no hold, and a hold no credit, though all four numbers are the same: who asks for the other is refused."""
+    """A credit is no payment and no hold, though all four numbers are the same: who asks for the other is refused."""
     bank, other = bank_of(range(4)), 7
     call(bank, "credit", own(1, 1), 1, 2, 5)
     call(bank, "hold", own(1, 2), 1, 2, 5)
     call(bank, "pay", own(1, 3), 1, 2, 5)
-    for name, number in (("hold", 1), ("pay", 1), ("pay", 2), ("credit", 2), ("decline", 2), ("hold", 3), ("credit", 3), ("decline", 3)):
+    for name, number in (
+        ("hold", 1),
+        ("pay", 1),
+        ("pay", 2),
+        ("credit", 2),
+        ("decline", 2),
+        ("hold", 3),
+        ("credit", 3),
+        ("decline", 3),
+    ):
         came, rows = call(bank, name, own(1, number), 1, 2, 5), bank.rows()
         same(f"{name} of {number}", other, came[1] or -came[2][0])
         same(f"the rows after {name} of {number}", rows, bank.rows())
@@ -245,27 +316,45 @@ def credited_ids():
 
 
 def days_of_limits():
-    """What an account has paid on a day takes no more records from day to day, whether it pays on each day or on some."""
+    """What accounts have paid on a day takes no more records from day to day, if they pay on each day or on some."""
     bank, draw, counts = bank_of(range(6)), random.Random(3), []
     for day in range(DAY + 1, DAY + 401):
         call(bank, "day", day)
         for number in range(20):
             payer = draw.randrange(6) if day % 7 else day % 6
-            call(bank, "pay", own(payer, (day - DAY) * 20 + number), payer, (payer + 1) % 6, draw.choice((1, 5, 10**6)))
+            call(
+                bank, "pay", own(payer, (day - DAY) * 20 + number), payer, (payer + 1) % 6, draw.choice((1, 5, 10**6))
+            )
             for _ in range(2):
                 call(bank, "forget")
         counts.append(len(bank.rows()) // ROW.size)
     judge(bank.rows(), 6 * CENTS)
-    same("the most records in the second half of the days, and in the first", True, max(counts[200:]) <= max(counts[:200]) + 50)
+    same(
+        "the most records in the second half of the days, and in the first",
+        True,
+        max(counts[200:]) <= max(counts[:200]) + 50,
+    )
     same("records of what was spent", 6, len(tables(bank.rows())[SPENT]))
     return f"{counts[199]} records after 200 days, {counts[399]} after 400"
 
 
 def limits_of_days():
-    """An account pays as much as it may on each day, and no more. What it paid on a later day counts on the next one, if the day is set back."""
+    """An account pays as much as it may on each day. If the day is set back, what it paid later counts once more."""
     bank, much = bank_of(range(3), 10**9), 10**6
-    steps = [((), much, True), ((), 1, False), (("day", DAY + 1), much, True), ((), 1, False), (("set_day", DAY + 50), much, True)]
-    steps += [(("set_day", DAY + 1), 1, False), (("day", DAY + 2), much, True), (("set_day", DAY + 9), much - 1, True), ((), 1, True), ((), 1, False)]
+    steps = [
+        ((), much, True),
+        ((), 1, False),
+        (("day", DAY + 1), much, True),
+        ((), 1, False),
+        (("set_day", DAY + 50), much, True),
+    ]
+    steps += [
+        (("set_day", DAY + 1), 1, False),
+        (("day", DAY + 2), much, True),
+        (("set_day", DAY + 9), much - 1, True),
+        ((), 1, True),
+        ((), 1, False),
+    ]
     for number, (day, amount, is_paid) in enumerate(steps):
         if day:
             same(str(day), True, call(bank, *day)[0])
@@ -274,39 +363,55 @@ def limits_of_days():
 
 
 def edges():
-    """A payment takes exactly what the payer has, as much as the limit of the day, and what the payee has digits for; and no cent more."""
+    """A payment takes exactly what the payer has, what is left of the limit, and what the payee has digits for."""
     for amount in (1, 99, 100, 101, 199, 200, 12_345, 99_999):
         for name, number in (("pay", 1), ("hold", 2)):
             for more, code in ((0, 0), (-1, -5)):
                 bank = bank_of([0, 2], 0)
                 call(bank, "open", 1, amount + amount // 100 + more)
-                same(f"{name} of {amount} with {more}", min(code, 0), min(call(bank, name, own(1, number), 1, 2, amount)[2][0], 0))
+                same(
+                    f"{name} of {amount} with {more}",
+                    min(code, 0),
+                    min(call(bank, name, own(1, number), 1, 2, amount)[2][0], 0),
+                )
         for name, number in (("pay", 3), ("hold", 4), ("credit", 5)):
             for more, code in ((0, 0), (1, -10)):
                 bank = bank_of([0, 1], CENTS)
                 call(bank, "open", 2, MOST - amount + more)
-                same(f"{name} of {amount} to {MOST - amount + more}", code, min(call(bank, name, own(1, number), 1, 2, amount)[2][0], 0))
+                same(
+                    f"{name} of {amount} to {MOST - amount + more}",
+                    code,
+                    min(call(bank, name, own(1, number), 1, 2, amount)[2][0], 0),
+                )
     for name in ("pay", "hold"):
         for first in (1, 500_000, LIMIT - 1):
             bank = bank_of([0, 1, 2], 9 * LIMIT)
             steps = ((first, True), (LIMIT - first + 1, False), (LIMIT - first, True), (1, False))
-            done = [call(bank, name, own(1, number), 1, 2, amount)[2][0] >= 0 for number, (amount, _) in enumerate(steps)]
+            done = [
+                call(bank, name, own(1, number), 1, 2, amount)[2][0] >= 0 for number, (amount, _) in enumerate(steps)
+            ]
             same(f"{name} up to the limit from {first} on", [is_done for _, is_done in steps], done)
-    bank = bank_of([0])
+    bank, last = bank_of([0]), 999_999_999
+    answers = [call(bank, "credit", own(1, 1), 0, last, 5), call(bank, "decline", own(1, 2), last, 0, 5)]
+    same("payments that are refused to, and from, the last account", [[-4], [-13]], [it[2][:1] for it in answers])
+    answers = [call(bank, "open", last, 7), call(bank, "credit", own(1, 3), 0, last, 5), call(bank, "balance", last)]
+    same("the last account, once it is there", [[7], [12], [12]], [it[2] for it in answers])
     same("the first and the last day", [True, True], [call(bank, "set_day", day)[0] for day in (0, 99_999)])
 
 
 def ends(folder, here, there, *request):
-    """What the command for operators says of a payment between two partitions: by their numbers, and the folders of both."""
+    """What the command for operators says of a payment between two partitions of these numbers."""
     words = [here, folder / "0" / "admin", there, folder / "1" / "admin", *request]
-    ran = subprocess.run([sys.executable, PAYMENTS / "partitions.py", *map(str, words)], capture_output=True, text=True, check=False)
+    ran = subprocess.run(
+        [sys.executable, PAYMENTS / "partitions.py", *map(str, words)], capture_output=True, text=True, check=False
+    )
     if ran.returncode:
         raise Differs(f"the command ends with {ran.returncode}: {ran.stderr[-300:]}")
     return ast.literal_eval(ran.stdout)
 
 
 def held_between_partitions():
-    """A hold between two partitions whose payer is gone, or whose payee's partition can't credit it, is ended by a command; no money is lost."""
+    """A hold between partitions whose payer is gone, or that can't be credited, is ended by a command."""
     with scratch() as folder, contextlib.ExitStack() as stack:
         bank = Partitions(folder, stack)
 
@@ -323,25 +428,39 @@ def held_between_partitions():
         same("the end of it", wanted, ends(folder, 0, 1, *burnt))
         same("again, and by a client", [wanted, wanted], [ends(folder, 0, 1, *burnt), bank.pay(burnt)])
         wanted = {"id": alone[0], "refused": "the payment was given up"}
-        same("where there is no account between both", [wanted, wanted], [ends(folder, 5, 1, *alone), ends(folder, 5, 1, *alone)])
+        same(
+            "where there is no account between both",
+            [wanted, wanted],
+            [ends(folder, 5, 1, *alone), ends(folder, 5, 1, *alone)],
+        )
         same("a client that dies after the credit", (None, 1), (bank.pay(other, 2), state(4)))
         with contextlib.suppress(ConnectionError):
             raise Differs(f"by its id another payee gets {bank.pay((*other[:2], 2001, 500))}")
         same("its hold", 1, state(4))
         same("the end of it", True, ends(folder, 0, 1, *other)["paid"])
         same("the states", [2, 3, 3, 2], [state(number) for number in range(1, 5)])
-        has = [bank.ask(number, {"balance": it})["has"] for number in range(2) for it in [0, *bank.accounts(number), CLEARING + 1 - number]]
+        has = [
+            bank.ask(number, {"balance": it})["has"]
+            for number in range(2)
+            for it in [0, *bank.accounts(number), CLEARING + 1 - number]
+        ]
         same("the money", 40 * bank.HAS, sum(has))
         same("what payer and payee have", [bank.HAS - 2 * 505, bank.HAS + 2 * 500], [has[1], has[23]])
 
 
 def cookbook():
-    """The procedures of the cookbook, and the gift of the page, refuse amounts that are none, and accounts that are not there."""
+    """The procedures of the cookbook, and the gift of the page, refuse what is no amount or no account."""
     (opening, *_) = (TESTS.parent / "examples" / "cookbook" / "jobs.jsonl").read_text().split("\n", 1)
     (transfer, fee, deposit, withdraw, *_), gift = json.loads(opening)["procedures"], gift_of_page()["procedure"]
     amounts, strange = (0, -1, -90, LEAST), (-1, 9, 10**9, MOST, LEAST)
-    calls = [(transfer, (1, 2, it)) for it in amounts] + [(deposit, (7, 1, it)) for it in amounts] + [(withdraw, (1, it, 5)) for it in amounts]
-    calls += [(transfer, its) for it in strange for its in ((it, 1, 5), (1, it, 5))] + [(withdraw, (it, 5, 5)) for it in strange]
+    calls = (
+        [(transfer, (1, 2, it)) for it in amounts]
+        + [(deposit, (7, 1, it)) for it in amounts]
+        + [(withdraw, (1, it, 5)) for it in amounts]
+    )
+    calls += [(transfer, its) for it in strange for its in ((it, 1, 5), (1, it, 5))] + [
+        (withdraw, (it, 5, 5)) for it in strange
+    ]
     calls += [(fee, (it,)) for it in strange] + [(deposit, (7, it, 5)) for it in strange]
     calls += [(gift, its) for its in [(1, it) for it in (*amounts, 10**9)] + [(it, 5) for it in strange]]
     for procedure, args in calls:
@@ -350,7 +469,9 @@ def cookbook():
         engine.put_bytes(b"".join(ROW.pack(table, account, 100) for account in range(3)))
         rows, number = engine.rows_bytes(), engine.procedure(procedure)
         (outcome,) = OUTCOME.iter_unpack(engine.run_bytes(pack_calls([(number, *args)])))
-        same(f"whether {procedure} refuses {args}", (False, True), (outcome[0] == Kind.COMMITTED, 0 < outcome[1] < 1000))
+        same(
+            f"whether {procedure} refuses {args}", (False, True), (outcome[0] == Kind.COMMITTED, 0 < outcome[1] < 1000)
+        )
         same(f"the rows after {procedure} with {args}", rows, engine.rows_bytes())
     return f"{len(calls)} calls"
 
@@ -366,15 +487,21 @@ class Lines:
         self.draw, self.made = draw, []  # payments that were asked for: their ids, payers, payees and amounts
 
     def account(self):
-        return self.draw.choice((*self.ACCOUNTS, self.RICH)) if self.draw.random() < 0.85 else self.draw.choice((7, 16, *STRANGE))
+        return (
+            self.draw.choice((*self.ACCOUNTS, self.RICH))
+            if self.draw.random() < 0.85
+            else self.draw.choice((7, 16, *STRANGE))
+        )
 
     def number(self, payer):
         """An id, most of the time of the payer."""
-        payer = payer if self.draw.random() < 0.85 and 0 <= payer < 10**9 else self.draw.choice((*self.ACCOUNTS, 8, 9))
+        payer = (
+            payer if self.draw.random() < 0.85 and 0 <= payer < 10**9 else self.draw.choice((*self.ACCOUNTS, 8, 9))
+        )
         return own(payer, self.draw.randrange(6)) if self.draw.random() < 0.93 else self.draw.choice((0, *STRANGE))
 
     def args(self, name):
-        """Arguments of a procedure, by the keys of its request. Most are of a payment that was asked for, some are not."""
+        """Arguments of a procedure, by the keys of its request: most are of a payment that was asked for."""
         payer, file = self.account(), FILES[name]
         drawn = self.number(payer), payer, self.account(), self.draw.choice(self.AMOUNTS)
         is_new = name in ("pay", "hold", "credit", "decline") and self.draw.random() < 0.5
@@ -383,8 +510,16 @@ class Lines:
         if is_new:
             self.made.append(drawn)
         number, payer, payee, amount = drawn
-        found = {"from": payer, "to": payee, "amount": amount, "account": self.draw.choice((payer, payee)), "before": self.draw.choice((0, number))}
-        found |= {key: payee for key in ("balance", "statement", "open")} | {key: self.draw.choice(self.AMOUNTS) for key in ("time", "reference")}
+        found = {
+            "from": payer,
+            "to": payee,
+            "amount": amount,
+            "account": self.draw.choice((payer, payee)),
+            "before": self.draw.choice((0, number)),
+        }
+        found |= {key: payee for key in ("balance", "statement", "open")} | {
+            key: self.draw.choice(self.AMOUNTS) for key in ("time", "reference")
+        }
         found = {key: found.get(key, number) for key in file.request}
         if found and self.draw.random() < 0.15:
             key = self.draw.choice(file.request)
@@ -392,7 +527,7 @@ class Lines:
         return found
 
     def request(self):
-        """A request of a procedure: now and then with a key that is missing, too much or wrong, or a value that is no number."""
+        """A request, now and then with a key that is missing, too much or wrong, or a value that is no number."""
         name = self.draw.choice([*ASKED, "pay", *("hold", "capture", "void", "refund") * 2])
         pairs = [*self.args(name).items()]
         self.draw.shuffle(pairs)
@@ -430,7 +565,7 @@ ASKED = [name for name, it in FILES.items() if it.request and not it.is_for_admi
 
 
 class Desk:
-    """A reader of lines and a bank: what a server is, without its processes. A model says what the bank has to answer."""
+    """A reader and a bank: a server without its processes. A model says what the bank has to answer."""
 
     def __init__(self, accounts):
         self.bank, self.client, self.reader = bank_of(accounts), Client(None, 0, None), Reader(FILES, None, False)
@@ -472,7 +607,7 @@ class Desk:
 
 
 def fuzz(rounds, seed):
-    """Lines, and calls that no reader has seen, valid and hostile ones: each has one reply, which is JSON, and the database stays right."""
+    """Lines, and calls that no reader has seen, valid and hostile ones: each reply is as the model has it."""
     inputs = done = 0
     for number in range(rounds):
         lines, desk = Lines(random.Random(f"{seed} {number}")), Desk(Lines.ACCOUNTS)
@@ -522,7 +657,17 @@ def main():
     def hostile_lines():
         return lines_to_a_server(rounds, seed)
 
-    cases = [negative_numbers, cents_to_numbers, wrong_refunds, old_ids, strange_calls, strange_lines, no_account_zero, ids_of_others, credited_ids]
+    cases = [
+        negative_numbers,
+        cents_to_numbers,
+        wrong_refunds,
+        old_ids,
+        strange_calls,
+        strange_lines,
+        no_account_zero,
+        ids_of_others,
+        credited_ids,
+    ]
     cases += [days_of_limits, limits_of_days, edges, held_between_partitions, cookbook, hostile_calls, hostile_lines]
     return run_cases([case for case in cases if not names or case.__name__ in names], of="payments accounts")
 

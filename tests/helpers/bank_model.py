@@ -1,6 +1,19 @@
-"""The bank of `examples/payments` in plain Python: what each procedure there answers, written from its page and not from its text."""
+"""The bank of `examples/payments` in plain Python: what each procedure there answers."""
 
-from helpers.bank_rows import ACCOUNTS, CAPTURED, CAPTURED_AND_REFUNDED, CREDITED, DAYS, HELD, LIMIT, OF_ACCOUNT, PAID, REFUNDED, REFUSED_HOLD, VOIDED
+from helpers.bank_rows import (
+    ACCOUNTS,
+    CAPTURED,
+    CAPTURED_AND_REFUNDED,
+    CREDITED,
+    DAYS,
+    HELD,
+    LIMIT,
+    OF_ACCOUNT,
+    PAID,
+    REFUNDED,
+    REFUSED_HOLD,
+    VOIDED,
+)
 
 MOST = 10**15 - 1
 
@@ -132,7 +145,9 @@ class Model:
         ask_unless(declines or payer in self.has, 3)
         ask_unless(0 <= payer < ACCOUNTS, 12)
         made = Payment(number, payer, payee, amount, CREDITED)
-        made.code = 13 if declines else 4 if self.has.get(payee, -1) < 0 else 10 if self.has[payee] > MOST - amount else 0
+        made.code = (
+            13 if declines else 4 if self.has.get(payee, -1) < 0 else 10 if self.has[payee] > MOST - amount else 0
+        )
         if made.code:
             self.note_payment(made)
             return [-made.code]

@@ -1,4 +1,4 @@
-"""What holds of every database of `examples/payments`, whatever its callers have asked: money is conserved, and each table has what it is for.
+"""What holds of every database of `examples/payments`: money is conserved, and each table has what it is for.
 
 The page there says what each record is. A database is a list of tables, each of which has values by number.
 """
@@ -19,7 +19,20 @@ from journal import Store  # noqa: E402
 ACCOUNTS, DAYS, LIMIT, OF_ACCOUNT, A_DAY = 10**9, 10**5, 10**6, 10**6, 10**7
 BALANCES, NEWEST, SPENT, IDS, PAYMENTS = 1, 2, 3, 4, 5
 # The columns of a payment, and how far apart payments are.
-ID, PAYER, PAYEE, AMOUNT, PAYER_HAS, PAYEE_HAS, BEFORE_OF_PAYER, BEFORE_OF_PAYEE, STATE, TIME, REFERENCE, AFTER_REFUND = range(12)
+(
+    ID,
+    PAYER,
+    PAYEE,
+    AMOUNT,
+    PAYER_HAS,
+    PAYEE_HAS,
+    BEFORE_OF_PAYER,
+    BEFORE_OF_PAYEE,
+    STATE,
+    TIME,
+    REFERENCE,
+    AFTER_REFUND,
+) = range(12)
 STEP = 16
 PAID, HELD, CAPTURED, VOIDED, REFUNDED, CAPTURED_AND_REFUNDED, REFUSED_HOLD, CREDITED = 0, 1, 2, 3, 4, 5, 6, 7
 
@@ -38,7 +51,7 @@ def tables(rows):
 
 
 def payments(found):
-    """The columns of each payment, by its place. Of a place where a held one waits its turn again there is the id alone."""
+    """The columns of each payment, by its place. Where a held one comes again to be forgotten there is the id alone."""
     places: dict = {}
     for number, value in found[PAYMENTS].items():
         places.setdefault(number - number % STEP, {})[number % STEP] = value
@@ -73,12 +86,16 @@ def faults_of_numbers(found):
 
 
 def faults_of_accounts(found):
-    """Tables 1 to 3: balances, newest payments and what was spent, of accounts alone; and nothing in the tables that are free."""
+    """Tables 1 to 3: balances, newest payments and what was spent, of accounts alone. Nothing in tables 6 and 7."""
     last, there = found[0].get(1, 0), found[BALANCES]
     good = {
         "an account": all(map(is_account, there)),
-        "the newest payment of an account": all(it in there and is_place(place, last) for it, place in found[NEWEST].items()),
-        "what an account has paid": all(it in there and 0 <= spent % A_DAY <= LIMIT for it, spent in found[SPENT].items()),
+        "the newest payment of an account": all(
+            it in there and is_place(place, last) for it, place in found[NEWEST].items()
+        ),
+        "what an account has paid": all(
+            it in there and 0 <= spent % A_DAY <= LIMIT for it, spent in found[SPENT].items()
+        ),
         "the day on which an account has paid": all(0 <= spent < DAYS * A_DAY for spent in found[SPENT].values()),
         "a table that is free": not found[6] and not found[7],
     }
@@ -110,7 +127,9 @@ def faults_of_payment(found, place, it):
         "whose id it is": state == CREDITED or it[ID] // OF_ACCOUNT == it[PAYER],
         "accounts that are there": (state == CREDITED and code) or {it[PAYER], it[PAYEE]} <= found[BALANCES].keys(),
         "the amount": it[AMOUNT] >= 1,
-        "the payment before it": all(not it.get(column) or is_place(it[column], place - STEP) for column in (BEFORE_OF_PAYER, BEFORE_OF_PAYEE)),
+        "the payment before it": all(
+            not it.get(column) or is_place(it[column], place - STEP) for column in (BEFORE_OF_PAYER, BEFORE_OF_PAYEE)
+        ),
         "its place": is_place(place, last),
     }
     return [f"{what}: {it}" for what, is_so in good.items() if not is_so]
@@ -132,7 +151,7 @@ def faults_of_payments(found):
 
 
 def faults_of_statements(found):
-    """From the newest payment of an account on there are all that it has made or got, unless one between was forgotten."""
+    """From the newest payment of an account on there are all of its payments, unless one between was forgotten."""
     places, faults, wanted = payments(found), [], {account: set() for account in found[BALANCES]}
     for place, it in places.items():
         for account, column in ((it.get(PAYER), BEFORE_OF_PAYER), (it.get(PAYEE), BEFORE_OF_PAYEE)):
@@ -163,15 +182,21 @@ def judge(rows, wanted=None):
 
 
 def judge_folder(folder):
-    """What a journal in files gives is right, and its money is what was opened. A journal that a start refuses gives nothing."""
+    """What a journal in files gives is right, and its money is what was opened; what a start refuses gives nothing."""
     with tempfile.TemporaryDirectory(prefix="payments-") as aside:
         try:
-            copy = shutil.copytree(folder, pathlib.Path(aside) / "copy", symlinks=True, ignore=shutil.ignore_patterns("admin", "*.new"))
+            copy = shutil.copytree(
+                folder, pathlib.Path(aside) / "copy", symlinks=True, ignore=shutil.ignore_patterns("admin", "*.new")
+            )
             opened, bank = None, None
             for bank, _, calls in batches(Store(copy), FileJournal(copy)):
                 if opened is None and bank.texts:
                     opened = money(tables(bank.rows()))
-                opened = opened if not isinstance(calls, list) else (opened or 0) + sum(it[2] for it in calls if it[0] == "open")
+                opened = (
+                    opened
+                    if not isinstance(calls, list)
+                    else (opened or 0) + sum(it[2] for it in calls if it[0] == "open")
+                )
         except (Unusable, OSError, ValueError):
             return
         judge(bank.rows(), opened)
