@@ -7,16 +7,14 @@ pays for an operator, or ends what somebody has begun. The first number, and the
 those of the payer's partition.
 """
 
-import pathlib
 import sys
 from typing import Any, Callable
 
 CLEARING = 999_999_000  # the account of a partition that stands for partition n has this number and n: what they owe each other
-Reply = dict[str, Any]
-Ask = Callable[[int, dict[str, int]], Reply]  # sends a request to a partition, as often as needed, and returns its reply
+Ask = Callable[[int, dict[str, int]], dict[str, Any]]  # sends a request to a partition, as often as needed, and returns its reply
 
 
-def pay(ask: Ask, partition_of: Callable[[int], int], number: int, payer: int, payee: int, amount: int) -> Reply:
+def pay(ask: Ask, partition_of: Callable[[int], int], number: int, payer: int, payee: int, amount: int) -> dict[str, Any]:
     """Pays once for an id, within a partition or between two. Without a reply it is called again, with the same arguments, within 90 days.
 
     Each step is a transaction of one server, and has the id, so it happens once. The whole is not atomic: between the first step and the
@@ -47,9 +45,9 @@ def main() -> None:
     here, own, there, other, *request = sys.argv[1:] if len(sys.argv) == 9 else sys.exit(__doc__)
     sockets, (number, payer, payee, amount) = {int(here): own, int(there): other}, map(int, request)
 
-    def step(partition: int, words: dict[str, int]) -> Reply:
+    def step(partition: int, words: dict[str, int]) -> dict[str, Any]:
         (word, value), *more = words.items()
-        return ask(pathlib.Path(sockets[partition]), word, value, **dict(more))
+        return ask(sockets[partition], word, value, **dict(more))
 
     print(pay(step, {payer: int(here), payee: int(there)}.__getitem__, number, payer, payee, amount))
 
