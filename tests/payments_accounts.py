@@ -312,6 +312,18 @@ def credited_ids():
         came, rows = call(bank, name, own(1, number), 1, 2, 5), bank.rows()
         same(f"{name} of {number}", other, came[1] or -came[2][0])
         same(f"the rows after {name} of {number}", rows, bank.rows())
+    for name, first, number in (
+        ("credit", (1, 2, 5), own(8, 1)),
+        ("decline", (1, 2, 5), own(8, 2)),
+        ("hold", (1, 2, 5), own(1, 4)),
+    ):
+        same(f"{name} with an id that is new", True, call(bank, name, number, *first)[0])
+        others = [(3, 2, 5), (1, 3, 5), (1, 2, 6)] if name != "hold" else [(1, 3, 5), (1, 2, 6)]
+        same(
+            f"{name} again, with other numbers",
+            [other] * len(others),
+            [call(bank, name, number, *it)[1] for it in others],
+        )
     judge(bank.rows(), 4 * CENTS)
 
 
@@ -396,6 +408,10 @@ def edges():
     same("payments that are refused to, and from, the last account", [[-4], [-13]], [it[2][:1] for it in answers])
     answers = [call(bank, "open", last, 7), call(bank, "credit", own(1, 3), 0, last, 5), call(bank, "balance", last)]
     same("the last account, once it is there", [[7], [12], [12]], [it[2] for it in answers])
+    for has, wanted in ((0, [5]), (-1, [-4])):
+        bank = Bank(0, PROCEDURES, ROW.pack(1, 0, 9) + ROW.pack(1, 1, has))
+        same(f"a credit to who has {has}", wanted, call(bank, "credit", 1, 0, 1, 5)[2])
+    same("the first day of all", True, call(bank, "day", 0)[0])
     same("the first and the last day", [True, True], [call(bank, "set_day", day)[0] for day in (0, 99_999)])
 
 
