@@ -10,7 +10,7 @@ import tempfile
 
 from helpers.cases import TESTS, same
 
-sys.path.insert(0, str(TESTS.parent / "examples" / "payments"))
+sys.path.append(str(TESTS.parent / "examples" / "payments"))  # the last, as a program of tests has a name from there
 from audit import batches  # noqa: E402
 from bank import ROW, Unusable  # noqa: E402
 from file_journal import FileJournal  # noqa: E402
