@@ -39,6 +39,7 @@ import types
 from unittest import mock
 
 sys.dont_write_bytecode = True
+from helpers.bank_rows import IDS, SPENT, faults, judge, judge_folder, own, payments, tables  # noqa: E402
 from helpers.cases import C_SOURCES, TESTS, Differs, same, run_cases  # noqa: E402
 from helpers.machines import Etcd, Hosts, Postgres, Redis, free_ports, python_with, running, wait_until  # noqa: E402
 
@@ -51,6 +52,7 @@ from bank import OUTCOME, ROW, Bank, Unusable, columns, load_procedures  # noqa:
 from chain import Chain, seal_batch  # noqa: E402
 from file_journal import FileJournal  # noqa: E402
 from front import AT_ONCE, FRONTS, OTHER_FILES, PART, Front  # noqa: E402
+from hundred_partitions import CENTS as CENTS_OF_EACH  # noqa: E402
 from hundred_partitions import SHARES, Simulation, accounts_of, partition_of  # noqa: E402
 from journal import Fenced, Store, store, unseal  # noqa: E402
 from lines import LONGEST, Reader  # noqa: E402
@@ -83,13 +85,15 @@ class Server:
     def __enter__(self):
         return self
 
-    def __exit__(self, *_):
+    def __exit__(self, failure, *_):
         self.process.kill()
         try:
             self.process.communicate(timeout=SECONDS)  # until its front processes have ended, too
         except subprocess.TimeoutExpired:
             raise Differs("a front process goes on without the server") from None
         self.await_end()
+        if not failure:
+            judge_folder(self.folder)
 
     def await_end(self):
         """Waits until a next one may have its folder, and its port if that was named: its processes end one after another."""
@@ -182,21 +186,14 @@ def preloaded(folder, name):
 
 
 def pay(number, payer, payee, amount):
-    return {"id": number, "from": payer, "to": payee, "amount": amount}
+    """A payment with this number of the payer's own."""
+    return {"id": own(payer, number), "from": payer, "to": payee, "amount": amount}
 
 
 def asked(server, wanted):
     """Compares the replies to these requests, sent at once, with those that are wanted."""
     for (request, reply), came in zip(wanted, server.ask(*[request for request, _ in wanted])):
         same(str(request), reply, came)
-
-
-def tables(rows):
-    """The records of a database, by table."""
-    found: list = [{} for _ in range(8)]
-    for table, number, value in ROW.iter_unpack(rows):
-        found[table][number] = value
-    return found
 
 
 def recovered(folder):
@@ -224,45 +221,47 @@ def replies():
     """Each reply that a client can get."""
     with scratch() as folder, Server("serve", folder / "j", "--accounts", 3, "--cents", 2_000_000) as server:
         day, much = "the payer has reached the limit of the day", "the payer does not have that much"
+        account = "an account is a number from 0 to 999999999"
         wanted = [
-            (pay(17, 1, 2, 250), {"id": 17, "paid": True, "from_has": 1_999_748, "to_has": 2_000_250}),
-            (pay(17, 1, 2, 250), {"id": 17, "paid": True, "from_has": 1_999_748, "to_has": 2_000_250}),
-            (pay(17, 1, 2, 251), {"id": 17, "refused": "the id belongs to another payment"}),
-            (pay(17, 2, 1, 250), {"id": 17, "refused": "the id belongs to another payment"}),
-            (pay(18, 1, 2, 0), {"id": 18, "refused": "the amount is not above zero"}),
-            (pay(18, 1, 1, 5), {"id": 18, "refused": "payer and payee are the same account"}),
-            (pay(26, -2, 1, 5), {"id": 26, "refused": "there is no such payer"}),
-            (pay(26, 1, 2, 5), {"id": 26, "refused": "the id belongs to another payment"}),
-            ({"amount": 250, "to": 2, "id": 17, "from": 1}, {"id": 17, "paid": True, "from_has": 1_999_748, "to_has": 2_000_250}),
-            (pay(27, 1, -2, 5), {"id": 27, "refused": "there is no such payee"}),
-            (pay(0, 1, 2, 5), {"id": 0, "refused": "an id is a number from 1 on"}),
-            (pay(18, 1, 2, 10**15 - 1), {"id": 18, "refused": "a number would pass fifteen digits"}),
-            (pay(18, 7, 1, 5), {"id": 18, "refused": "there is no such payer"}),
-            (pay(22, 1, 7, 5), {"id": 22, "refused": "there is no such payee"}),
-            (pay(23, 1, 2, 1_990_000), {"id": 23, "refused": much}),
-            (pay(24, 1, 2, LIMIT - 249), {"id": 24, "refused": day}),
-            (pay(25, 1, 2, LIMIT - 250), {"id": 25, "paid": True, "from_has": 990_001, "to_has": 3_000_000}),
-            (pay(24, 1, 2, LIMIT - 249), {"id": 24, "refused": day}),
-            (pay(24, 1, 2, LIMIT - 248), {"id": 24, "refused": "the id belongs to another payment"}),
+            (pay(17, 1, 2, 250), {"id": 1_000_017, "paid": True, "from_has": 1_999_748, "to_has": 2_000_250}),
+            (pay(17, 1, 2, 250), {"id": 1_000_017, "paid": True, "from_has": 1_999_748, "to_has": 2_000_250}),
+            (pay(17, 1, 2, 251), {"id": 1_000_017, "refused": "the id belongs to another payment"}),
+            (pay(17, 1, 0, 250), {"id": 1_000_017, "refused": "the id belongs to another payment"}),
+            ({**pay(17, 1, 2, 250), "from": 2, "to": 1}, {"id": 1_000_017, "refused": "the id is none of the payer's account"}),
+            (pay(18, 1, 2, 0), {"id": 1_000_018, "refused": "the amount is not above zero"}),
+            (pay(18, 1, 1, 5), {"id": 1_000_018, "refused": "payer and payee are the same account"}),
+            ({**pay(26, 1, 2, 5), "from": -2}, {"error": f"from: {account}"}),
+            ({"amount": 250, "to": 2, "id": 1_000_017, "from": 1}, {"id": 1_000_017, "paid": True, "from_has": 1_999_748, "to_has": 2_000_250}),
+            (pay(27, 1, -2, 5), {"error": f"to: {account}"}),
+            ({**pay(27, 0, 2, 5), "id": 0}, {"error": "id: an id is a number from 1 on"}),
+            (pay(-1, 1, 2, 5), {"id": 999_999, "refused": "the id is none of the payer's account"}),
+            (pay(18, 1, 2, 10**15 - 1), {"id": 1_000_018, "refused": "a number would pass fifteen digits"}),
+            (pay(18, 7, 1, 5), {"id": 7_000_018, "refused": "there is no such payer"}),
+            (pay(22, 1, 7, 5), {"id": 1_000_022, "refused": "there is no such payee"}),
+            (pay(23, 1, 2, 1_990_000), {"id": 1_000_023, "refused": much}),
+            (pay(24, 1, 2, LIMIT - 249), {"id": 1_000_024, "refused": day}),
+            (pay(25, 1, 2, LIMIT - 250), {"id": 1_000_025, "paid": True, "from_has": 990_001, "to_has": 3_000_000}),
+            (pay(24, 1, 2, LIMIT - 249), {"id": 1_000_024, "refused": day}),
+            (pay(24, 1, 2, LIMIT - 248), {"id": 1_000_024, "refused": "the id belongs to another payment"}),
             ({"balance": 0}, {"balance": 0, "has": 2_009_999}),
             ({"balance": 9}, {"balance": 9, "refused": "there is no such account"}),
-            ({"balance": -2}, {"balance": -2, "refused": "there is no such account"}),
+            ({"balance": -2}, {"error": f"balance: {account}"}),
         ]
         asked(server, wanted)
         opened = [
             ({"open": 9, "amount": 70}, {"open": 9, "opened": True, "has": 70}),
             ({"open": 9, "amount": 70}, {"open": 9, "refused": "there is such an account already"}),
             ({"open": 8, "amount": -1}, {"open": 8, "refused": "the amount is below zero"}),
-            ({"open": -1, "amount": 1}, {"open": -1, "refused": "an account has a number from 0 to 999999999"}),
+            ({"open": -1, "amount": 1}, {"error": f"open: {account}"}),
             ({"open": 10, "amount": 999_999_999_999_999}, {"open": 10, "opened": True, "has": 999_999_999_999_999}),
         ]
         for request, reply in opened:  # administrators alone open accounts
             same(f"{request} at the port", [{"error"}], [set(it) for it in server.ask(request)])
             same(str(request), reply, ask(folder / "j" / "admin", *[it for it in request.items()][0], amount=request["amount"]))
         more = [
-            (pay(19, 2, 10, 1), {"id": 19, "refused": "a balance would pass fifteen digits"}),
+            (pay(19, 2, 10, 1), {"id": 2_000_019, "refused": "a balance would pass fifteen digits"}),
             ({"balance": 9}, {"balance": 9, "has": 70}),
-            (pay(18, 7, 1, 5), {"id": 18, "refused": "there is no such payer"}),
+            (pay(18, 7, 1, 5), {"id": 7_000_018, "refused": "there is no such payer"}),
         ]
         asked(server, more)
         no_request = [b"", b"7", b"[]", b'{"id":1}', b'{"balance":"x"}', b'{"balance":1.0}', b'{"balance":true}', b'{"day":1}', b"\xff", b'{"balance":1} x', b'{"balance":1}{"balance":1}', b'{"balance":1000000000000000}', b'{"balance":1,"balance":2}', b'{"balance":1,"balance":1}']
@@ -273,17 +272,17 @@ def replies():
         why |= dict.fromkeys((b'{"amount":1,"open":5}', b'{"health":true}'), "only administrators may ask for this, at their own socket")
         same("what is wrong", [{"error": it} for it in why.values()], server.ask(*why))
         same("whether it says that it leads", True, server.leads)
-        same("the payments", [20, 21], [reply["id"] for reply in server.ask(pay(20, 2, 1, 1), pay(21, 2, 1, 1))])
+        same("the payments", [2_000_020, 2_000_021], [reply["id"] for reply in server.ask(pay(20, 2, 1, 1), pay(21, 2, 1, 1))])
         good, long = {"balance": 9, "has": 70}, {"error": f"a line has at most {LONGEST} bytes"}
         lines = [b'{"balance":9' + b" " * length + b"}" for length in (LONGEST - 13, LONGEST - 12, 0, 10**6, 0)]
         same("lines that are too long, between others", [good, long, good, long, good], server.ask(*lines))
-        same("verify", (0, "calls 1 to 14 give the rows of the server\n", ""), run("verify", folder / "j"))
+        same("verify", (0, "calls 1 to 10 give the rows of the server\n", ""), run("verify", folder / "j"))
         same("a second server", (1, f"payments: {folder / 'j'}: another server has this folder\n"), (lambda r: (r[0], r[2]))(run("serve", folder / "j")))
         same("the end", (0, ""), server.end())
-        same("verify without a server", (0, "calls 1 to 14 give the rows of each snapshot\n", ""), run("verify", folder / "j"))
+        same("verify without a server", (0, "calls 1 to 10 give the rows of each snapshot\n", ""), run("verify", folder / "j"))
         shown = run("show", folder / "j")[1].splitlines()
         procedures = f"# batch 1: from here on with the procedures {', '.join(sorted(PROCEDURES))}"
-        same("show", [procedures, "2 pay id=17 from=1 to=2 amount=250", "10 open open=9 amount=70"], [shown[0], shown[2], shown[10]])
+        same("show", [procedures, "2 pay id=1000017 from=1 to=2 amount=250", "6 open open=9 amount=70"], [shown[0], shown[2], shown[6]])
     return f"{len(wanted) + len(opened) + len(more)} replies"
 
 
@@ -310,7 +309,7 @@ def administration():
             at_port = server.ask(*[{word: True} for word in ("rows", "health", "figures", "promote")])
             same("words at the port", [{"error"}] * 4, [set(reply) for reply in at_port])
             same("who may open the socket", 0o600, admin.stat().st_mode & 0o777)
-            asked(server, [(pay(1, 1, 2, 5), {"id": 1, "paid": True, "from_has": 99_995, "to_has": 100_005})])
+            asked(server, [(pay(1, 1, 2, 5), {"id": 1_000_001, "paid": True, "from_has": 99_995, "to_has": 100_005})])
             same("rows", (2, 64), (ask(admin, "rows")["seq"], len(ask(admin, "rows")["sha256"])))
             same("verify", (0, "calls 1 to 2 give the rows of the server\n", ""), run("verify", folder / "j"))
             same("health", {"health": "ok", "leads": True, "seq": 2}, {key: value for key, value in ask(admin, "health").items() if key != "batch"})
@@ -335,59 +334,61 @@ def holds():
     with scratch() as folder, Server("serve", folder / "j", "--accounts", 4) as server:
 
         def hold(number, payer, payee, amount):
-            return {"hold": number, "from": payer, "to": payee, "amount": amount}
+            return {"hold": own(payer, number), "from": payer, "to": payee, "amount": amount}
 
         def done(word, number, payee):
             return {word: number, "to": payee}
 
         no_hold, no_payment = "there is no such hold for this payee", "there is no such payment to this payee"
         wanted = [
-            (hold(1, 1, 2, 1000), {"hold": 1, "held": True, "from_has": 98_990}),
-            (hold(1, 1, 2, 1000), {"hold": 1, "held": True, "from_has": 98_990}),
-            (hold(1, 1, 2, 1001), {"hold": 1, "refused": "the id belongs to another payment"}),
-            (pay(1, 1, 2, 1000), {"id": 1, "refused": "the id belongs to another payment"}),
+            (hold(1, 1, 2, 1000), {"hold": 1_000_001, "held": True, "from_has": 98_990}),
+            (hold(1, 1, 2, 1000), {"hold": 1_000_001, "held": True, "from_has": 98_990}),
+            (hold(1, 1, 2, 1001), {"hold": 1_000_001, "refused": "the id belongs to another payment"}),
+            (pay(1, 1, 2, 1000), {"id": 1_000_001, "refused": "the id belongs to another payment"}),
             ({"balance": 2}, {"balance": 2, "has": 100_000}),
-            (done("refund", 1, 2), {"refund": 1, "refused": "it was held and not captured"}),
-            (done("capture", 1, 3), {"capture": 1, "refused": no_hold}),
-            (done("capture", 1, 2), {"capture": 1, "captured": True, "to_has": 101_000}),
-            (done("capture", 1, 2), {"capture": 1, "captured": True, "to_has": 101_000}),
-            (hold(1, 1, 2, 1000), {"hold": 1, "held": True, "from_has": 98_990}),
-            (done("void", 1, 2), {"void": 1, "refused": "the hold was captured"}),
-            (hold(2, 1, 2, 500), {"hold": 2, "held": True, "from_has": 98_485}),
-            (done("void", 2, 2), {"void": 2, "voided": True, "from_has": 98_990}),
-            (done("void", 2, 2), {"void": 2, "voided": True, "from_has": 98_990}),
-            (done("capture", 2, 2), {"capture": 2, "refused": "the hold was voided"}),
-            (done("refund", 2, 2), {"refund": 2, "refused": "it was held and not captured"}),
-            (hold(3, 1, 2, 99_000), {"hold": 3, "refused": "the payer does not have that much"}),
-            (hold(3, 1, 2, 99_000), {"hold": 3, "refused": "the payer does not have that much"}),
-            (done("capture", 3, 2), {"capture": 3, "refused": no_hold}),
-            (done("refund", 3, 2), {"refund": 3, "refused": no_payment}),
-            (done("refund", 1, 2), {"refund": 1, "refunded": True, "to_has": 100_000}),
-            (done("refund", 1, 2), {"refund": 1, "refunded": True, "to_has": 100_000}),
-            (done("capture", 1, 2), {"capture": 1, "refused": "the payment was refunded"}),
-            (pay(4, 2, 3, 90_000), {"id": 4, "paid": True, "from_has": 9_100, "to_has": 190_000}),
-            (pay(5, 3, 1, 150_000), {"id": 5, "paid": True, "from_has": 38_500, "to_has": 249_990}),
-            (done("refund", 4, 3), {"refund": 4, "refused": "the payee does not have that much"}),
-            (done("refund", 5, 1), {"refund": 5, "refunded": True, "to_has": 99_990}),
-            (pay(5, 3, 1, 150_000), {"id": 5, "paid": True, "from_has": 38_500, "to_has": 249_990}),
-            (done("capture", 4, 3), {"capture": 4, "refused": no_hold}),
-            (done("capture", -1, 2), {"capture": -1, "refused": no_hold}),
-            (done("refund", -1, 2), {"refund": -1, "refused": no_payment}),
-            (done("refund", 9, 2), {"refund": 9, "refused": no_payment}),
+            (done("refund", 1_000_001, 2), {"refund": 1_000_001, "refused": "it was held and not captured"}),
+            (done("capture", 1_000_001, 3), {"capture": 1_000_001, "refused": no_hold}),
+            (done("capture", 1_000_001, 2), {"capture": 1_000_001, "captured": True, "to_has": 101_000}),
+            (done("capture", 1_000_001, 2), {"capture": 1_000_001, "captured": True, "to_has": 101_000}),
+            (hold(1, 1, 2, 1000), {"hold": 1_000_001, "held": True, "from_has": 98_990}),
+            (done("void", 1_000_001, 2), {"void": 1_000_001, "refused": "the hold was captured"}),
+            (hold(2, 1, 2, 500), {"hold": 1_000_002, "held": True, "from_has": 98_485}),
+            (done("void", 1_000_002, 2), {"void": 1_000_002, "voided": True, "from_has": 98_990}),
+            (done("void", 1_000_002, 2), {"void": 1_000_002, "voided": True, "from_has": 98_990}),
+            (done("capture", 1_000_002, 2), {"capture": 1_000_002, "refused": "the hold was voided"}),
+            (done("refund", 1_000_002, 2), {"refund": 1_000_002, "refused": "it was held and not captured"}),
+            (hold(3, 1, 2, 99_000), {"hold": 1_000_003, "refused": "the payer does not have that much"}),
+            (hold(3, 1, 2, 99_000), {"hold": 1_000_003, "refused": "the payer does not have that much"}),
+            (done("capture", 1_000_003, 2), {"capture": 1_000_003, "refused": no_hold}),
+            (done("refund", 1_000_003, 2), {"refund": 1_000_003, "refused": no_payment}),
+            (done("refund", 1_000_001, 2), {"refund": 1_000_001, "refunded": True, "to_has": 100_000}),
+            (done("refund", 1_000_001, 2), {"refund": 1_000_001, "refunded": True, "to_has": 100_000}),
+            (done("capture", 1_000_001, 2), {"capture": 1_000_001, "captured": True, "to_has": 101_000}),
+            (done("void", 1_000_001, 2), {"void": 1_000_001, "refused": "the hold was captured"}),
+            (hold(2, 1, 2, 500), {"hold": 1_000_002, "held": True, "from_has": 98_485, "state": 3}),
+            (pay(4, 2, 3, 90_000), {"id": 2_000_004, "paid": True, "from_has": 9_100, "to_has": 190_000}),
+            (pay(5, 3, 1, 150_000), {"id": 3_000_005, "paid": True, "from_has": 38_500, "to_has": 249_990}),
+            (done("refund", 2_000_004, 3), {"refund": 2_000_004, "refused": "the payee does not have that much"}),
+            (done("refund", 3_000_005, 1), {"refund": 3_000_005, "refunded": True, "to_has": 99_990}),
+            (pay(5, 3, 1, 150_000), {"id": 3_000_005, "paid": True, "from_has": 38_500, "to_has": 249_990}),
+            (done("capture", 2_000_004, 3), {"capture": 2_000_004, "refused": no_hold}),
+            (done("capture", -1, 2), {"error": "capture: an id is a number from 1 on"}),
+            (done("refund", 0, 2), {"error": "refund: an id is a number from 1 on"}),
+            (done("refund", 1_000_009, 2), {"refund": 1_000_009, "refused": no_payment}),
         ]
         wanted += [({"balance": account}, {"balance": account, "has": has}) for account, has in enumerate((102_410, 99_990, 9_100, 188_500))]
         asked(server, wanted)
-        note, state = {"note": 4, "from": 2, "time": 1_764_288_000, "reference": 77}, {"from": 2, "to": 3, "amount": 90_000, "state": 0}
+        note, state = {"note": 2_000_004, "from": 2, "time": 1_764_288_000, "reference": 77}, {"from": 2, "to": 3, "amount": 90_000, "state": 0}
         notes = [
-            ({"payment": 4, "account": 3}, {"payment": 4, **state, "time": 0, "reference": 0}),
-            ({**note, "from": 3}, {"note": 4, "refused": "there is no such payment of this payer"}),
-            (note, {"note": 4, "noted": True}),
-            (note, {"note": 4, "noted": True}),
-            ({**note, "reference": 78}, {"note": 4, "refused": "it has another note"}),
-            ({"payment": 4, "account": 3}, {"payment": 4, **state, "time": 1_764_288_000, "reference": 77}),
-            ({"payment": 4, "account": 1}, {"payment": 4, "refused": "there is no such payment of this account"}),
+            ({"payment": 2_000_004, "account": 3}, {"payment": 2_000_004, **state, "time": 0, "reference": 0}),
+            ({**note, "from": 3}, {"note": 2_000_004, "refused": "there is no such payment of this payer"}),
+            (note, {"note": 2_000_004, "noted": True}),
+            (note, {"note": 2_000_004, "noted": True}),
+            ({**note, "reference": 78}, {"note": 2_000_004, "refused": "it has another note"}),
+            ({"payment": 2_000_004, "account": 3}, {"payment": 2_000_004, **state, "time": 1_764_288_000, "reference": 77}),
+            ({"payment": 2_000_004, "account": 1}, {"payment": 2_000_004, "refused": "there is no such payment of this account"}),
         ]
-        notes += [({"payment": number, "account": 1}, {"payment": number, "from": payer, "to": 4 - 2 * (payer == 1) - payer * (payer == 3), "amount": amount, "state": is_so, "time": 0, "reference": 0}) for number, payer, amount, is_so in ((1, 1, 1000, 5), (2, 1, 500, 3), (3, 1, 99_000, -5), (5, 3, 150_000, 4))]
+        notes += [({"payment": number, "account": 1}, {"payment": number, "from": payer, "to": 4 - 2 * (payer == 1) - payer * (payer == 3), "amount": amount, "state": is_so, "time": 0, "reference": 0}) for number, payer, amount, is_so in ((1_000_001, 1, 1000, 5), (1_000_002, 1, 500, 3), (1_000_003, 1, 99_000, -5), (3_000_005, 3, 150_000, 4))]
         asked(server, notes)
         same("the sum of all balances", 400_000, sum(it["has"] for it in server.ask(*[{"balance": account} for account in range(4)])))
         same("verify", 0, run("verify", folder / "j")[0])
@@ -400,16 +401,17 @@ def owing():
         between, much = partition.CLEARING + 1, "the payer does not have that much"
         same("an account", {"open": between, "opened": True, "has": 0}, ask(folder / "j" / "admin", "open", between, amount=0))
         wanted = [
-            ({"credit": 1, "from": between, "to": 1, "amount": 500}, {"credit": 1, "credited": True, "to_has": 100_500}),
+            ({"credit": 5_000_001, "from": between, "to": 1, "amount": 500}, {"credit": 5_000_001, "credited": True, "to_has": 100_500}),
+            ({"credit": 3_000_001, "from": between, "to": 1, "amount": 5}, {"credit": 3_000_001, "refused": "the id is none of the payer's account"}),
             ({"balance": between}, {"balance": between, "has": -500}),
-            ({"hold": 2, "from": 2, "to": between, "amount": 100}, {"hold": 2, "held": True, "from_has": 99_899}),
-            ({"capture": 2, "to": between}, {"capture": 2, "captured": True, "to_has": -400}),
-            (pay(3, 2, between, 100), {"id": 3, "paid": True, "from_has": 99_798, "to_has": -300}),
-            (pay(4, between, 2, 1), {"id": 4, "refused": much}),
-            ({"hold": 5, "from": between, "to": 2, "amount": 1}, {"hold": 5, "refused": much}),
-            ({"credit": 6, "from": 1, "to": between, "amount": 100}, {"credit": 6, "refused": "there is no such payee, or it owes"}),
-            ({"hold": 7, "from": 2, "to": 9, "amount": 1}, {"hold": 7, "refused": "there is no such payee"}),
-            ({"credit": 8, "from": 1, "to": 9, "amount": 1}, {"credit": 8, "refused": "there is no such payee, or it owes"}),
+            ({"hold": 2_000_002, "from": 2, "to": between, "amount": 100}, {"hold": 2_000_002, "held": True, "from_has": 99_899}),
+            ({"capture": 2_000_002, "to": between}, {"capture": 2_000_002, "captured": True, "to_has": -400}),
+            (pay(3, 2, between, 100), {"id": 2_000_003, "paid": True, "from_has": 99_798, "to_has": -300}),
+            (pay(4, between, 2, 1), {"id": own(between, 4), "refused": much}),
+            ({"hold": own(between, 5), "from": between, "to": 2, "amount": 1}, {"hold": own(between, 5), "refused": much}),
+            ({"credit": 1_000_006, "from": 1, "to": between, "amount": 100}, {"credit": 1_000_006, "refused": "there is no such payee, or it owes"}),
+            ({"hold": 2_000_007, "from": 2, "to": 9, "amount": 1}, {"hold": 2_000_007, "refused": "there is no such payee"}),
+            ({"credit": 1_000_008, "from": 1, "to": 9, "amount": 1}, {"credit": 1_000_008, "refused": "there is no such payee, or it owes"}),
         ]
         asked(server, wanted)
         same("an account again", "there is such an account already", ask(folder / "j" / "admin", "open", between, amount=0)["refused"])
@@ -417,20 +419,20 @@ def owing():
 
 def statements():
     """The payments of each account, newest first, by pages; no refused one, and none that the account credited."""
-    draw, own, outside = random.Random(14), {account: [] for account in range(1, 5)}, []
+    draw, made, outside = random.Random(14), {account: [] for account in range(1, 5)}, []
     with scratch() as folder, Server("serve", folder / "j", "--accounts", 5) as server:
-        for number in draw.sample(range(1, 10**15), 60):
+        for number in draw.sample(range(1, 10**6), 60):
             payer, payee = draw.sample(range(1, 5), 2)
             (reply,) = server.ask(pay(number, payer, payee, draw.choice((1, 10, 10**6))))
             if "paid" in reply:
-                own[payer].insert(0, number)
-                own[payee].insert(0, number)
+                made[payer].insert(0, reply["id"])
+                made[payee].insert(0, reply["id"])
             else:
-                outside.append((payer, number))
+                outside.append((payer, reply["id"]))
         credit = 10**15 - 1
         same("a credit", True, server.ask({"credit": credit, "from": 1, "to": 4, "amount": 5})[0].get("credited"))
-        own[4].insert(0, credit)
-        for account, wanted in own.items():
+        made[4].insert(0, credit)
+        for account, wanted in made.items():
             came, before = [], 0
             while page := server.ask({"statement": account, "before": before})[0]["payments"]:
                 came += page
@@ -439,13 +441,13 @@ def statements():
         refused = [
             ({"statement": 9, "before": 0}, {"statement": 9, "refused": "there is no such account"}),
             ({"statement": 1, "before": 5}, {"statement": 1, "refused": "there is no such payment of this account"}),
-            ({"statement": 0, "before": own[1][0]}, {"statement": 0, "refused": "there is no such payment of this account"}),
+            ({"statement": 0, "before": made[1][0]}, {"statement": 0, "refused": "there is no such payment of this account"}),
             ({"statement": 0, "before": 0}, {"statement": 0, "payments": []}),
         ]
         for account, number in [*outside, (1, credit)]:
             refused.append(({"statement": account, "before": number}, {"statement": account, "refused": "there is no such payment of this account"}))
         asked(server, refused)
-    return f"of {[len(it) for it in own.values()]} payments"
+    return f"of {[len(it) for it in made.values()]} payments"
 
 
 def forgotten():
@@ -454,7 +456,7 @@ def forgotten():
     with scratch() as folder, Server("serve", folder / "j", "--accounts", 4) as server:
         admin = folder / "j" / "admin"
         records = ask(admin, "rows")["records"]
-        held = {"hold": 99, "from": 1, "to": 2, "amount": 100}
+        held = {"hold": 1_000_099, "from": 1, "to": 2, "amount": 100}
         first = server.ask(*[pay(number, 1, 2, 100) for number in range(1, paid + 1)], held, pay(98, 3, 2, 10**9))
         day = ask(admin, "day")["day"]
         for after in (1, days):
@@ -463,12 +465,12 @@ def forgotten():
         same("the day", {"day": day + days + 1}, ask(admin, "day", day + days + 1))
         for number in range(100, 100 + paid):
             same("a new payment", {"paid"}, {"paid"} & set(server.ask(pay(number, 3, 2, 1))[0]))
-        same("a forgotten one", "there is no such payment to this payee", server.ask({"refund": 5, "to": 2})[0]["refused"])
+        same("a forgotten one", "there is no such payment to this payee", server.ask({"refund": 1_000_005, "to": 2})[0]["refused"])
         same("the statement", [], server.ask({"statement": 1, "before": 0})[0]["payments"][1:])
         (again,) = server.ask(pay(5, 1, 2, 1))
         same("one that is paid again", (True, first[-2]["from_has"] - 1), (again["paid"], again["from_has"]))
-        same("one that is held", {"capture": 99, "captured": True, "to_has": 102_121}, server.ask({"capture": 99, "to": 2})[0])
-        # Nine of each payment, and of the held one its state and its second number; the newest payment of three accounts; what two have paid today; three
+        same("one that is held", {"capture": 1_000_099, "captured": True, "to_has": 102_121}, server.ask({"capture": 1_000_099, "to": 2})[0])
+        # Nine of each payment, and of the held one its state and its second place; the newest payment of three accounts; what two have paid last; three
         # days that began; and how many ids came, and were forgotten.
         same("records", records + 9 * (paid + 2) + 2 + 3 + 2 + 3 + 2, ask(admin, "rows")["records"])
         same("verify", 0, run("verify", folder / "j")[0])
@@ -478,10 +480,10 @@ def removals():
     """What is forgotten are only records that are there, as the engine keeps the key of any other until a cut; and all of what is not held."""
     opened = [(1, account, 1_000_000) for account in range(5)]
     bank, day = Bank(0, PROCEDURES, b"".join(ROW.pack(*row) for row in opened)), 20_000
-    calls = [("day", day), ("pay", 1, 1, 2, 100), ("pay", 2, 1, 2, 10**7), ("hold", 3, 1, 2, 100), ("hold", 4, 1, 2, 100), ("capture", 4, 2)]
-    calls += [("hold", 5, 1, 2, 100), ("void", 5, 2), ("pay", 6, 1, 2, 100), ("refund", 6, 2), ("hold", 7, 1, 2, 100), ("capture", 7, 2), ("refund", 7, 2)]
-    calls += [("pay", 8, 2, 3, 100), ("note", 8, 2, -1, 0), ("credit", 9, 1, 2, 100), ("credit", 10, 1, 9, 100), ("hold", 11, 1, 2, 10**7), ("pay", 12, 4, 3, 7)]
-    calls += [("note", 9, 1, 1, 1), ("pay", 13, 10**15 - 1, 1, 5), ("hold", 14, 1 - 10**15, 1, 5), ("set_day", day + 1), ("set_day", day + 91), *[("forget",)] * 14]
+    calls = [("day", day), ("pay", 1_000_001, 1, 2, 100), ("pay", 1_000_002, 1, 2, 10**7), ("hold", 1_000_003, 1, 2, 100), ("hold", 1_000_004, 1, 2, 100), ("capture", 1_000_004, 2)]
+    calls += [("hold", 1_000_005, 1, 2, 100), ("void", 1_000_005, 2), ("pay", 1_000_006, 1, 2, 100), ("refund", 1_000_006, 2), ("hold", 1_000_007, 1, 2, 100), ("capture", 1_000_007, 2), ("refund", 1_000_007, 2)]
+    calls += [("pay", 2_000_008, 2, 3, 100), ("note", 2_000_008, 2, -1, 0), ("credit", 1_000_009, 1, 2, 100), ("credit", 1_000_010, 1, 9, 100), ("hold", 1_000_011, 1, 2, 10**7), ("pay", 4_000_012, 4, 3, 7)]
+    calls += [("note", 1_000_009, 1, 1, 1), ("decline", 7_000_013, 7, 1, 5), ("set_day", day + 1), ("set_day", day + 91), *[("forget",)] * 13]
     bank.replay(calls)
     there, forgets, missing = {row[:2] for row in opened}, set(), []
     for place in range(len(bank.engine)):
@@ -493,8 +495,9 @@ def removals():
             missing += [record] if reply.value is None and event.tid in forgets and record not in there else []
             (there.discard if reply.value is None else there.add)(record)
     same("records that are removed, and were not there", [], missing)
-    same("the payments of which something is left", {3}, {abs(number) for table, number in there if 2 <= table <= 6})
-    same("what was spent", set(), {number for table, number in there if table == 7})
+    judge(bank.rows(), 5_000_000)
+    same("the payments of which something is left", {1_000_003}, {it[0] for it in payments(tables(bank.rows())).values()})
+    same("what was spent", {1, 2, 4}, {number for table, number in there if table == SPENT})
     same("the refusal when nothing is left", [], bank.run(pack_calls([(bank.numbers["forget"],)]), ["forget"])[1])
 
 
@@ -503,7 +506,7 @@ def lists():
     with scratch() as folder, Server("serve", folder / "j", "--accounts", 3) as server:
         request, has = {"balance": 1}, {"balance": 1, "has": 100_000}
         error, not_here = server.ask(b"x", {"rows": True})
-        paid = {"id": 1, "paid": True, "from_has": 99_995, "to_has": 100_005}
+        paid = {"id": 1_000_001, "paid": True, "from_has": 99_995, "to_has": 100_005}
         wanted = [
             ([request], [has]),
             ([pay(1, 1, 2, 5), {"balance": 7}, [request], 7, {"rows": True}, pay(1, 1, 2, 5)], [paid, {"balance": 7, "refused": "there is no such account"}, error, error, not_here, paid]),
@@ -512,7 +515,7 @@ def lists():
         ]
         asked(server, wanted)
         (replies,) = server.ask([pay(number, 2, 1, 1) for number in range(100, 300)])
-        same("the payments of a long list", list(range(100, 300)), [it["id"] for it in replies if "paid" in it])
+        same("the payments of a long list", list(range(2_000_100, 2_000_300)), [it["id"] for it in replies if "paid" in it])
         same("verify", 0, run("verify", folder / "j")[0])
 
 
@@ -529,8 +532,8 @@ def tokens():
             no, yes, gift = {"error": "no right to this"}, {"token": True}, pay(1, 3, 1, 5)
             same("without a token", [no, no], server.ask({"balance": 1}, gift))
             same("wrong tokens", [no, no, no], server.ask({"token": "shops"}, b'{"token": "\\ud800"}', {"balance": 1}))
-            wanted = [yes, {"id": 2, "paid": True, "from_has": 99_995, "to_has": 100_005}, no, {"balance": 3, "has": 100_005}, no, no, [no, {"balance": 0, "has": 100_000}]]
-            same("a shop", wanted, server.ask({"token": "shop"}, pay(2, 2, 3, 5), gift, {"balance": 3}, {"balance": 4}, {"capture": 2, "to": 3}, [gift, {"balance": 0}]))
+            wanted = [yes, {"id": 2_000_002, "paid": True, "from_has": 99_995, "to_has": 100_005}, no, {"balance": 3, "has": 100_005}, no, no, [no, {"balance": 0, "has": 100_000}]]
+            same("a shop", wanted, server.ask({"token": "shop"}, pay(2, 2, 3, 5), gift, {"balance": 3}, {"balance": 4}, {"capture": 2_000_002, "to": 3}, [gift, {"balance": 0}]))
             same("a clerk", [yes, {"balance": 3, "has": 100_005}, no, no], server.ask({"token": "clerk"}, {"balance": 3}, {"balance": 1}, gift))
             same("what says nothing of rights", [yes, no], server.ask({"token": "shop"}, {"few": 5}))
             same("the same for an administrator", {"few": 5, "one": 5}, ask(folder / "j" / "admin", "few", 5))
@@ -646,8 +649,9 @@ class Load:
         payee = (payer + self.draw.randrange(1, ACCOUNTS)) % ACCOUNTS
         # Small, so that the money and the limit of the day last; one in twenty may be refused.
         amount = self.draw.randrange(1, 200) if self.draw.randrange(20) else self.draw.randrange(1, 2 * CENTS)
-        self.asked[self.ids] = pay(self.ids, payer, payee, amount)
-        return self.asked[self.ids]
+        request = pay(self.ids, payer, payee, amount)
+        self.asked[request["id"]] = request
+        return request
 
     def run(self, server, seconds=SECONDS, until=lambda: False):
         """Pays until the server is gone, or this is so, or the time is over."""
@@ -720,16 +724,14 @@ class Load:
 
     def judge(self, seq, found, opened=ACCOUNTS * CENTS):
         """Each acknowledged payment is there once, as it was asked and answered; no refused one is; and no money is lost."""
-        # By its number the nth payment has its id in table 0. Negative numbers have the statements, which is another test's matter.
-        ids = {number: name for number, name in found[0].items() if number > 0}
-        balance = {key: value for key, value in found[1].items() if key >= 0}
-        payer, payee, amount, from_has, to_has = [{ids[key]: value for key, value in it.items() if key >= 0} for it in found[2:7]]
-        same("the numbers of the payments", {-ids[number]: number for number in ids}, {key: it for key, it in found[1].items() if key < 0})
+        same("what is wrong with the database", [], faults(found))
+        balance, made = found[1], {it[0]: it for it in payments(found).values()}
+        payer, payee, amount, from_has, to_has = [{number: it[column] for number, it in made.items()} for column in range(1, 6)]
         refused = {number for number, code in from_has.items() if code < 0}
         wanted = {account: CENTS for account in range(ACCOUNTS)}
         for number in payer:
             request = self.asked.get(number)
-            same(f"payment {number}", request, pay(number, payer[number], payee[number], amount[number]))
+            same(f"payment {number}", request, {"id": number, "from": payer[number], "to": payee[number], "amount": amount[number]})
             if number in refused:
                 continue
             fee = amount[number] // FEE_OF
@@ -834,9 +836,9 @@ def torn_tails():
             is_whole = length == len(whole)
             same(f"cut at byte {length}: the last call", first - (not is_whole), seq)
             same(f"cut at byte {length}: what was cut off", 0 if is_whole else max(0, length - last - 1), torn)
-            same(f"cut at byte {length}: the payment", is_whole, call[1] in found[2])
+            same(f"cut at byte {length}: the payment", is_whole, call[1] in found[IDS])
         # Of a batch that was not safe any part may be there.
-        batch = as_lines(batch_number + 1, first, [("pay", 100 + more, 1, 2, 5) for more in (1, 2)])
+        batch = as_lines(batch_number + 1, first, [("pay", 1_000_100 + more, 1, 2, 5) for more in (1, 2)])
         for at in range(1, len(batch), 3):
             for garbled in (batch[:at] + bytes(len(batch) - at), bytes(at) + batch[at:], batch[:at] + b"\n" + batch[at + 1 :]):
                 calls.write_bytes(whole + garbled)
@@ -877,7 +879,7 @@ def damage():
         mark = data.rindex(b"\n\n") + 1
         wanted = recovered(folder / "j")[:2]
         number = unseal(data[mark + 1 : -1])[0]
-        later = as_lines(number + 1, wanted[0], [("pay", 100, 1, 2, 5)])
+        later = as_lines(number + 1, wanted[0], [("pay", 1_000_100, 1, 2, 5)])
         first = data.index(b"\n\n")  # the end of the first batch, which has the procedures
         for at in (*range(0, first - 20, 97), *range(first - 20, len(data), 2)):
             flipped = bytearray(data)
@@ -1199,7 +1201,7 @@ def pays_on(folder, server, wanted):
     """Pays as much as one may on a day, when the clock is so many days ahead, and compares whether it is paid."""
     for days, is_paid in wanted:
         set_clock(folder, days)
-        (reply,) = server.ask(pay(time.time_ns() % 10**15, 1, 2, LIMIT))
+        (reply,) = server.ask(pay(time.time_ns() % 10**6, 1, 2, LIMIT))
         same(f"a payment when the clock is {days} days ahead", is_paid, "paid" in reply)
 
 
@@ -1210,7 +1212,13 @@ def names_in(folder):
 def payments_in(folder):
     """The id of each payment in a journal, and what both had after it."""
     _, found, _ = recovered(folder)
-    return [(number, found[5][number], found[6][number]) for number in sorted(found[5])]
+    return [(it[0], it[4], it[5]) for _, it in sorted(payments(found).items())]
+
+
+def gift_of_page():
+    """The procedure that the page writes."""
+    (text,) = [it for it in re.findall(r"```json\n(.*?)```", (PAYMENTS / "README.md").read_text(), re.DOTALL) if '"gift"' in it]
+    return json.loads(text)
 
 
 def other_procedures():
@@ -1220,9 +1228,9 @@ def other_procedures():
         shutil.copytree(PAYMENTS / "procedures", procedures)
         words = ("serve", folder / "j", "--accounts", 3, "--keep")
         with Server(*words) as server:
-            asked(server, [(pay(1, 1, 2, 1000), {"id": 1, "paid": True, "from_has": 98_990, "to_has": 101_000})])
+            asked(server, [(pay(1, 1, 2, 1000), {"id": 1_000_001, "paid": True, "from_has": 98_990, "to_has": 101_000})])
             server.end()
-        gift = {"request": ["gift", "amount"], "reply": ["has"], "procedure": [2, [["look", 0, 1, ["arg", 0], 1], ["let", 0, ["sum", ["reg", 0], ["arg", 1]]], ["put", 1, ["arg", 0], ["reg", 0]], ["answer", ["reg", 0]]]]}
+        gift = gift_of_page()
         (procedures / "gift.json").write_text(json.dumps(gift))
         (procedures / "open.json").unlink()
         few = {"request": ["few"], "done": "100 %d", "reply": ["one", "two"], "procedure": [1, [["answer", ["arg", 0]]]]}
@@ -1235,7 +1243,7 @@ def other_procedures():
         same("a start with other procedures", (1, "", wanted), run(*own))
         same("the files", before, names_in(folder / "j"))
         with Server(*own, "--new-procedures") as server:
-            asked(server, [({"gift": 2, "amount": 5}, {"gift": 2, "has": 101_005}), ({"balance": 1}, {"balance": 1, "has": 98_990}), ({"gift": 7, "amount": 5}, {"gift": 7, "refused": "code 1"})])
+            asked(server, [({"gift": 2, "amount": 5}, {"gift": 2, "has": 101_005}), ({"balance": 1}, {"balance": 1, "has": 98_990}), ({"gift": 7, "amount": 5}, {"gift": 7, "refused": "there is no such account"})])
             asked(server, [({"few": 5}, {"few": 5, "100 %d": True, "one": 5}), ({"many %s": -7}, {"many %s": -7, "one": -7})])
             server.process.kill()
         with Server(*own) as server:
@@ -1508,6 +1516,7 @@ def rows_after(journal, folder):
     if ran.returncode:
         raise Differs(f"a recovery ends with {ran.stderr.decode()}")
     seq, _, rows = ran.stdout.partition(b" ")
+    judge(rows)
     return int(seq), tables(rows)
 
 
@@ -1772,7 +1781,8 @@ class Group:
 
 def follower_answers(group, load):
     """A follower answers what does not write, says how old that is, and soon has what the primary has. On a slow machine they may change."""
-    payment = load.asked[10**9] = pay(10**9, 1, 2, 1)  # which is paid if it leads by then
+    payment = pay(999_999, 1, 2, 1)  # which is paid if it leads by then
+    load.asked[payment["id"]] = payment
 
     def has_it():
         primary = group.primary()
@@ -1822,12 +1832,13 @@ def is_refused(wanted, *words, python=sys.executable):
 
 
 def takes_a_copy(group):
-    """A server that has nothing, and whose batches were deleted, says so. With a copy of another server's snapshot it follows, or leads."""
+    """A server that has nothing, and whose batches were deleted, says so. With a copy of another's snapshots, by the page, it follows, or leads."""
     journal, (new, old) = group.journal, (group.folder / "new", group.folder / "0")
     words = ("serve", new, "--journal", journal.address)
     if not is_refused(r"batch 1 was deleted, and the first one is \d+: copy a newer snapshot of another server\n", *words, python=journal.python):
         return ". On so slow a machine no batch was deleted"
-    shutil.copy(max(old.glob("*.snapshot")), new)
+    (copies,) = re.findall("^scp .*", (PAYMENTS / "README.md").read_text(), re.MULTILINE)
+    subprocess.run(copies.replace("scp /var/lib/payments", f"cp {old}").replace("c:/var/lib/payments", str(new)), shell=True, check=True)
     with Server(*words, python=journal.python, **adjusted(**NEVER)) as server:
         same("the last call", rows_after(journal, old)[0], server.seq)
         same("the status", 0, server.end()[0])
@@ -2111,7 +2122,7 @@ def between_partitions():
         wanted = []
         for number in range(1, 401):  # some are of who does not have that much, or to somebody who is not there
             payer, payee = draw.sample(everyone, 2)
-            wanted.append((number, payer, draw.choice((payee,) * 9 + (payee + 500,)), draw.choice((7, 150, 2_000, 90_000))))
+            wanted.append((own(payer, number), payer, draw.choice((payee,) * 9 + (payee + 500,)), draw.choice((7, 150, 2_000, 90_000))))
         plans, over = [(request, draw.choice((1, 2, 3, 9, 9))) for request in wanted], threading.Event()
 
         def clients(own):
@@ -2176,6 +2187,8 @@ def hundred_partitions():
     hundred = Simulation(100, SHARES[2], 64, 0.01)
     about("payments a second of a hundred", figures_of_page("100")[2:3], [hundred.run()[0]])
     same("where the money is not as the replies have it", [{}] * 6, [it.wrong() for it in (*two, hundred)])
+    for bank in [it.bank for simulation in (deadly, *two, hundred) for it in simulation.partitions]:
+        judge(bank.rows(), len(accounts_of(0)) * CENTS_OF_EACH)
     refused = [payment.words for it in (deadly, *two, hundred) for payment in it.payments if "refused" in payment.reply]
     same("refused payments to who is there", [], [it for it in refused if it[2] in accounts_of(partition_of(it[2]))])
     return f"{deadly.deaths} deaths of servers, {kinds[0]} payments, each paid once; {len(hundred.payments)} without deaths"
@@ -2228,7 +2241,7 @@ def postgresql_standby():
                     journal.command("alter system reset synchronous_standby_names")
                     client.settimeout(SECONDS)
                     reply = json.loads(client.makefile().readline())
-                    same("the reply that came then", {"id": number, "paid": True}, {key: reply[key] for key in ("id", "paid")})
+                    same("the reply that came then", {"id": own(1, number), "paid": True}, {key: reply[key] for key in ("id", "paid")})
                     return
     raise Differs("a payment was acknowledged, and the standby is away")
 

@@ -28,7 +28,7 @@ from sgt import pack_calls  # noqa: E402
 # Microseconds of a server, by the first key of a request. With a way of 25, on one machine, one server then has about as many payments a
 # second of 1, 8 and 64 clients as were measured, which are on the page of examples/payments.
 BATCH = 170
-COST = {"id": 21, "hold": 20, "credit": 18, "capture": 12, "void": 12, "payment": 5}
+COST = {"id": 21, "hold": 20, "credit": 18, "decline": 15, "capture": 12, "void": 12, "payment": 5}
 WAY = 100  # from a client to a server, or back: between half of it and one and a half
 AWAY = 20_000  # until a server that has died serves again
 PARTITIONS, SHARES = (1, 2, 10, 100), (0, 0.01, 0.1, 0.5, 1)
@@ -119,7 +119,7 @@ class Simulation:
         to = home if self.draw.random() >= self.share else (home + self.draw.randrange(1, partitions)) % partitions
         payer, payee = self.draw.choice(accounts_of(home)), self.draw.choice(accounts_of(to))
         payee += ACCOUNTS * (payee == payer or self.draw.random() < self.dies)  # who is not there
-        payment = Payment((len(self.payments) + 1, payer, payee, self.draw.randrange(1, 1000)), home, time)
+        payment = Payment((payer * 1_000_000 + len(self.payments) + 1, payer, payee, self.draw.randrange(1, 1000)), home, time)
         self.payments.append(payment)
         self.go_on(payment, time)
 

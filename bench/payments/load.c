@@ -54,8 +54,9 @@ static int order(const void *left, const void *right) {
 // Writes a payment to `line`, and returns its length.
 static int payment(char *line, uint64_t accounts) {
   uint64_t from = 1 + draw(accounts - 1), to = (from + 1 + draw(accounts - 1)) % accounts;
-  return sprintf(line, "{\"id\":%llu,\"from\":%llu,\"to\":%llu,\"amount\":%llu}", (unsigned long long)draw(900000000000000),
-                 (unsigned long long)from, (unsigned long long)to, (unsigned long long)(1 + draw(100)));
+  uint64_t id = from * 1000000 + draw(1000000);  // of the payer's account
+  return sprintf(line, "{\"id\":%llu,\"from\":%llu,\"to\":%llu,\"amount\":%llu}", (unsigned long long)id, (unsigned long long)from,
+                 (unsigned long long)to, (unsigned long long)(1 + draw(100)));
 }
 
 static void pay(struct client *client, uint64_t accounts) {

@@ -117,12 +117,13 @@ def loading(load, port, clients, seconds, seed, payments):
 def old_payments(records):
     """The rows of a bank with about so many records: 1000 accounts, and payments that came over 90 days ago, so each new one has some forgotten."""
     count, today = (records - 1004) // 9, int(time.time() // 86_400)
-    rows = [(0, -20_000_000_000 - today, count), (0, 90 - 20_000_000_000 - today, count), (0, -(10**10), count), (0, 0, today)]
-    rows += [(0, number, number) for number in range(1, count + 1)] + [(1, -number, number) for number in range(count, 0, -1)]
+    rows = [(0, 0, today), (0, 1, 16 * count), (0, 100_000 + today - 90, 16 * count), (0, 100_000 + today, 16 * count)]
     rows += [(1, account, CENTS) for account in range(1000)]
-    for table in range(2, 7):
-        rows += [(table, -number, 0) for number in range(count, 0, -1) if table < 4]
-        rows += [(table, number, 1) for number in range(1, count + 1)]
+    ids = [(1 + number % 999) * 1_000_000 + number // 999 for number in range(count)]
+    rows += [(4, it, 16 * place) for it, place in sorted(zip(ids, range(1, count + 1)))]
+    for place, it in enumerate(ids, 1):
+        columns = it, it // 1_000_000, 0, 1, 1, 1, 0, 0
+        rows += [(5, 16 * place + column, value) for column, value in enumerate(columns)]
     return b"".join(ROW.pack(*row) for row in rows)
 
 

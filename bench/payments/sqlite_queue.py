@@ -58,8 +58,8 @@ def pay(database: sqlite3.Connection, number: int, payer: int, payee: int, amoun
     earlier = run_one("select payer,payee,amount,from_has,to_has from payment where id=?", (number,)).fetchone()
     if earlier:
         return Reported(0, earlier[3:]) if earlier[:3] == (payer, payee, amount) else Reported(7)
-    if amount < 1:
-        return Reported(1)
+    if amount < 1 or number // 1_000_000 != payer:
+        return Reported(1 if amount < 1 else 11)
     if payer == payee:
         return Reported(2)
     has = run_one("select cents from balance where account=?", (payer,)).fetchone()
@@ -130,7 +130,7 @@ def worker(path: str, seconds: float, seed: int, queue: multiprocessing.Queue) -
     while time.monotonic() < end:
         payer = draw.randrange(1, ACCOUNTS)
         database.execute("begin immediate")
-        pay(database, draw.randrange(9 * 10**14), payer, (payer + draw.randrange(1, ACCOUNTS)) % ACCOUNTS, draw.randrange(1, 100))
+        pay(database, payer * 1_000_000 + draw.randrange(1_000_000), payer, (payer + draw.randrange(1, ACCOUNTS)) % ACCOUNTS, draw.randrange(1, 100))
         database.execute("commit")
         done += 1
     queue.put(done)

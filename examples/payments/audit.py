@@ -7,14 +7,14 @@ import json
 import pathlib
 import socket
 import sys
-from typing import Any, Iterator, Optional
+from typing import Any, Iterator, Optional, Union
 
 from bank import Bank, Unusable, load_procedures
 from chain import Batch, applied, unseal_batch
 from journal import Journal, Missing, Store
 
 
-def ask(path: pathlib.Path, word: str, value: int = True, timeout: Optional[float] = None, **more: int) -> dict[str, Any]:
+def ask(path: Union[pathlib.Path, str], word: str, value: int = True, timeout: Optional[float] = None, **more: int) -> dict[str, Any]:
     """What the server replies to a word, or to a request. An OSError if none listens there, it ends, or is late."""
     with socket.socket(socket.AF_UNIX) as server:
         server.settimeout(timeout)

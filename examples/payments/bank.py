@@ -9,7 +9,7 @@ from itertools import compress
 from typing import Any, Optional, Sequence
 
 sys.path.insert(0, str(pathlib.Path(__file__).resolve().parents[2] / "bindings" / "python"))
-from sgt import Engine, Kind, pack_calls, wrote  # noqa: E402
+from sgt import MOST, Engine, Kind, pack_calls, wrote  # noqa: E402
 
 ENTRIES = 16_000_000  # the history is cut after so many entries, or as many as there are records; a payment makes 28
 ROW = struct.Struct("<I4xqq")  # table, number and value of a row
@@ -19,6 +19,8 @@ COMMITTED = int(Kind.COMMITTED)  # a member of an enum is compared slowly
 # answers.
 OUTCOME = struct.Struct("=8xI8xI24xI12x8q256x")
 NO_PROCEDURE = 65_535  # the number of none
+# By the word of a file for some of its arguments: the least and the most that these may be, and what is said of others.
+BOUNDS = {"accounts": (0, 999_999_999, "an account is a number from 0 to 999999999"), "ids": (1, MOST, "an id is a number from 1 on")}
 Call = Sequence[Any]  # the name of a procedure, and its arguments; as JSON it is an entry of the journal
 
 
@@ -35,6 +37,8 @@ class Procedure:
         self.request: list[str] = file.get("request", [])  # clients can't ask for a procedure without any keys
         self.is_for_administrators: bool = file.get("administration", False)
         self.rights: dict[str, str] = file.get("rights", {})  # by the key that has the account: pay, or read
+        # Of a value, by its key: the least and the most that it may be, and what is said of others.
+        self.bounds = {key: (*ends, f"{key}: {why}") for word, (*ends, why) in BOUNDS.items() for key in file.get(word, [])}
         self.writes = any(f'["{word}"' in json.dumps(self.text) for word in ("put", "remove"))
         # Replies by how many answers they have, in which %d stands for a number. To put JSON together by `dumps` takes four times as long.
         reported = file.get("reply", [])

@@ -14,7 +14,7 @@ LONGEST = 10_000  # bytes of a line
 TOO_LONG = f'{{"error": "a line has at most {LONGEST} bytes"}}'
 NO_REQUEST = '{"error": "a line is one JSON object with keys, or a list of such objects"}'
 NO_NUMBERS, NOT_HERE = "a value is a whole number of at most fifteen digits", "only administrators may ask for this, at their own socket"
-NO_RIGHT = '{"error": "no right to this"}'
+NO_RIGHT, ANY = '{"error": "no right to this"}', (LEAST, MOST, "")
 # A value, and where it ends: three times as fast as `json.loads`. An object is a tuple of pairs, as it may have a key twice.
 read_json = json.JSONDecoder(object_pairs_hook=tuple).scan_once
 Rights = Optional[dict[str, list[list[int]]]]  # by "pay" and "read": from which account to which; None if all is allowed
@@ -43,8 +43,10 @@ class Reader:
         self.first_rights: Rights = None if tokens is None or is_for_administrators else {}
         served = [it for it in procedures.values() if it.request and (is_for_administrators or not it.is_for_administrators)]
         orders = [(keys, it, [*map(keys.index, it.request)]) for it in served for keys in permutations(it.request)]
-        # By the keys of a request, in any order: its procedure, and what takes the arguments out of its values.
-        self.requests: dict[Any, tuple[Procedure, Any]] = {keys: (it, itemgetter(*places) if places != sorted(places) else tuple) for keys, it, places in orders}
+        # By the keys of a request, in any order: its procedure, what takes the arguments out of its values, and the bounds of each value.
+        self.requests: dict[Any, tuple[Procedure, Any, Any]] = {}
+        for keys, it, places in orders:
+            self.requests[keys] = it, itemgetter(*places) if places != sorted(places) else tuple, [it.bounds.get(key, ANY) for key in keys]
 
     def read(self, line: bytes, client: Client) -> Line:
         """What a line of a client asks for. With a token the client has that one's rights from then on."""
@@ -67,16 +69,15 @@ class Reader:
         if type(pairs) is not tuple or not pairs:
             return NO_REQUEST
         keys, values = zip(*pairs)
-        found = self.requests.get(keys)
-        for value in values:  # twice as fast as by `all`
-            if type(value) is not int or not LEAST <= value <= MOST:
-                found = None
-        if found:
+        if found := self.requests.get(keys):
+            for value, (least, most, why) in zip(values, found[2]):  # twice as fast as by `all`
+                if type(value) is not int or not least <= value <= most:
+                    return json.dumps({"error": why if type(value) is int and LEAST <= value <= MOST else NO_NUMBERS})
             return NO_RIGHT if rights is not None and not may(rights, found[0], dict(pairs)) else (found[0], found[1](values))
         if self.takes_words and len(pairs) == 1 and isinstance(values[0], int) and LEAST <= values[0] <= MOST:
             return dict(pairs)
         why = (NO_NUMBERS if self.takes_words else NOT_HERE) if (*sorted(keys),) in self.known else f"no request has the keys {', '.join(keys)}"
-        return json.dumps({"error": NO_NUMBERS if keys in self.requests else why})
+        return json.dumps({"error": why})
 
 
 def may(rights: dict[str, list[list[int]]], procedure: Procedure, asked: dict[str, int]) -> bool:
