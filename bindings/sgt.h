@@ -612,7 +612,8 @@ uint32_t sgt_explain_procedure(uint64_t number, const char *procedure, size_t le
 
 /*
  * The rest takes no engine and is not proved. The version is that of this header. sgt_version returns that of the linked
- * library, so that a program can compare the two. sgt_status_text returns a sentence for a status. Do not free either text.
+ * library, so that a program can compare the two. It ends in "+unproved" if the library was compiled without proof.
+ * sgt_status_text returns a sentence for a status. Do not free either text.
  *
  * Since 0.2.0, sgt_ended says whether its call wrote. Since 0.1.0, sgt_shared_outcome and sgt_transaction have one member more, and a
  * shared engine cuts its history by itself unless its configuration says otherwise. So compile your program anew.
