@@ -42,7 +42,7 @@ PAGES = [
 # Pages of worked programs, which are not among the lines that are counted.
 WORKED = ["examples/clients/README.md", "examples/cookbook/README.md", "examples/payments/README.md", "examples/store/README.md"]
 PAGES += WORKED
-ALL_LINES = 2800
+ALL_LINES = 2900
 LINE = 120
 HELP_LINE = 100
 
@@ -386,7 +386,7 @@ def consoles():
 def run_as_they_say(sgt):
     commands = list(consoles())
     for page, command, wanted in commands:
-        command = command.replace("crates/sgt/out/sgt", sgt)
+        command = re.sub(r"(?<!\S)\./sgt(?= )", sgt, command)
         env = dict(os.environ, PATH=f"{os.path.dirname(sgt)}:{os.environ['PATH']}")
         ran = subprocess.run(["sh", "-c", command], cwd=TOP, env=env, stdout=subprocess.PIPE, stderr=subprocess.STDOUT, timeout=SECONDS, check=False)
         same(f"{page}: {command}", "".join(line + "\n" for line in wanted), ran.stdout.decode())

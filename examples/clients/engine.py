@@ -1,7 +1,7 @@
 #!/usr/bin/env python3
 """Records what the jobs of a bank see of this engine, for `sgt check --model list-append`.
 
-    engine.py crates/sgt/out/sgt | crates/sgt/out/sgt check --model list-append
+    engine.py ./sgt | ./sgt check --model list-append
 
 The engine stores numbers and no lists. So a list is a number, and its digits are its values: 0 is the empty list, and an append of 5
 makes 12 to 125. A list has at most nine values, 1 to 9, each once. A record that is not there is an empty list.
