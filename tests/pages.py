@@ -14,6 +14,7 @@ import random
 import re
 import subprocess
 import sys
+import tempfile
 from functools import cache
 
 sys.dont_write_bytecode = True
@@ -587,6 +588,33 @@ def have_the_procedures_of_the_cookbook(_sgt):
     return f"{len(shown)} procedures"
 
 
+def have_recipes_that_can_be_pasted(sgt):
+    """`examples/cookbook/opening` joins recipes, by their headings and out of files, to a line that the program accepts."""
+    page, make = text_of("examples/cookbook/README.md"), EXAMPLES / "cookbook" / "opening"
+    headings = [part.split("\n", 1)[0] for part in page.split("\n## ")[1:] if "```json" in part]
+    wanted = [json.loads("\n".join(lines)) for lines in blocks_of("examples/cookbook/README.md", "json")]
+    with tempfile.TemporaryDirectory() as folder:
+        pasted = os.path.join(folder, "mine.json")
+        with open(pasted, "w", encoding="utf-8") as file:
+            file.write("\n".join(blocks_of("examples/cookbook/README.md", "json")[0]) + "\n")
+        made = subprocess.run([make, *headings, pasted], capture_output=True, text=True, check=True).stdout
+        same("the procedures", [*wanted, wanted[0]], json.loads(made)["procedures"])
+        same("the lines", 1, made.count("\n"))
+        same("a run", "0 committed 1\n7/9 1\n", answered(sgt, made + '["job",9,[9]]\n'))
+        for name, why in (("nothing", "is no recipe and no file"), (os.path.join(folder, "mine"), "is no recipe"), (str(make), "is no JSON")):
+            ran = subprocess.run([make, name], capture_output=True, text=True, check=False)
+            same(f"what is said of {name}", (2, "", True), (ran.returncode, ran.stdout, why in ran.stderr and ran.stderr.count("\n") == 1))
+    parts = [json.loads(it) for it in re.findall(r"^- `(\[.*\])`$", page, re.M)]
+    opening = {"limits": [1, 9], "accounts": [], "procedures": [[4, [["answer", it] for it in parts]]]}
+    same("a number that is taken apart", "0 committed 21 1234\n", answered(sgt, json.dumps(opening) + '\n["job",5,[0,0,0,21000001234]]\n'))
+    return f"{len(wanted)} recipes"
+
+
+def answered(sgt, text):
+    """What a bank of this input writes."""
+    return subprocess.run([sgt, "bank", "--workers", "1"], input=text, capture_output=True, text=True, timeout=SECONDS, check=True).stdout
+
+
 def have_the_positions_that_the_program_gives(sgt):
     rows = [line for _, line in parts_of("docs/FORMATS.md")[0] if re.match(r"^\| `(\[|\d)[^`]*` \| `(top|[\d ]+)` \|", line)]
     for row in rows:
@@ -617,6 +645,7 @@ def main(path):
         have_a_grammar_that_the_program_accepts,
         have_the_five_procedures,
         have_the_procedures_of_the_cookbook,
+        have_recipes_that_can_be_pasted,
     have_the_positions_that_the_program_gives,
     ]
     return run_cases(cases, os.path.abspath(path), of="pages")
