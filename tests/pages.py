@@ -33,7 +33,7 @@ LONGEST = {"README.md": 90, "docs/ARCHITECTURE.md": 180, "bench/FIGURES.md": 140
 PAGES = [
     "README.md",
     "CONTRIBUTING.md",
-    *(f"docs/{name}.md" for name in ("ARCHITECTURE", "DECISIONS", "DEFINITIONS", "FORMATS", "HEADLINE", "LANGUAGE", "LIBRARY", "PROOFS")),
+    *(f"docs/{name}.md" for name in ("ARCHITECTURE", "COMPARED", "DECISIONS", "DEFINITIONS", "FORMATS", "HEADLINE", "LANGUAGE", "LIBRARY", "PROOFS")),
     "bench/FIGURES.md",
     "examples/README.md",
     "examples/programs/README.md",
@@ -330,6 +330,8 @@ LIMITS = [
     ("sgt_model/src/key.rt", "LAST_TABLE", "docs/LANGUAGE.md", "a table is over {}"),
     ("sgt_model/src/limits.rt", "MOST_LIVE", "README.md", "| 1 to {};"),
     ("sgt_model/src/limits.rt", "MOST_LIVE", "docs/FORMATS.md", "from 1 to {};"),
+    ("sgt_model/src/limits.rt", "MOST_LIVE", "docs/COMPARED.md", "At most {} are live"),
+    ("sgt_model/src/limits.rt", "MOST_LIVE", "docs/COMPARED.md", "| {} live |"),
     ("sgt_model/src/limits.rt", "MOST_BEGINS", "README.md", "at most {} started"),
     ("sgt_model/src/limits.rt", "MOST_BEGINS", "docs/FORMATS.md", "from 1 to {}"),
     ("sgt_proc/src/sizes.rt", "MOST_STATEMENTS", "README.md", "{} statements"),
@@ -367,6 +369,16 @@ def have_the_limits_of_the_sources(_sgt):
             found.append(f"{page} does not say {says!r}")
     fail_if(found)
     return f"{len(LIMITS)} limits"
+
+
+def compare_the_same_databases_throughout(_sgt):
+    """Each table of the comparison has a row for each database of its title, in that order, and says where each side is ahead."""
+    title, *lines = text_of("docs/COMPARED.md").split("\n")
+    wanted = re.findall(r"[\w]+", title.replace(" or ", " "))
+    tables = "\n".join(line for line in lines if not line or line.startswith("|")).split("\n\n")
+    rows = [[line.split("|")[1].strip() for line in table.split("\n")[2:]] for table in map(str.strip, tables) if table]
+    same("the rows", [wanted, wanted], rows)
+    same("who is ahead", ["Where the others are ahead:", "Where sgt is ahead:"], [line for line in lines if line.endswith(" ahead:")])
 
 
 # Commands
@@ -638,6 +650,7 @@ def main(path):
         have_the_headline_word_for_word,
         name_each_test_and_tool,
         have_the_limits_of_the_sources,
+        compare_the_same_databases_throughout,
         run_as_they_say,
         name_commands_that_exist,
         have_a_grammar_of_the_examples,
