@@ -1,15 +1,16 @@
 #!/usr/bin/env python3
-"""Records what clients see of any database that has a Python driver by DB-API 2 (PEP 249), for `sgt check --model list-append`.
+"""Records what clients see of a database by its Python driver, for `sgt check --model list-append`.
+
+The driver follows DB-API 2 (PEP 249), as most do.
 
     dbapi.py --driver sqlite3 --dsn /tmp/lists.db --begin begin > history.json
     dbapi.py --driver psycopg2 --dsn "host=/tmp dbname=test" --begin "set transaction isolation level repeatable read"
     dbapi.py --driver pymysql --dsn '{"host": "localhost", "database": "test"}' --append "concat(list, ' {}')"
 
-A list is a row with a text. All rows are there before the clients begin, so that an append is one UPDATE. Each client is a connection, in a
-thread of its own. It makes a table `sgt_lists`, and drops it first. A transaction counts as aborted if a statement failed and the
-rollback after it did not: the connection still answers then, so the database has undone it. Where the rollback fails as well, nobody
-knows its end.
-"""
+A list is a row with a text. All rows are there before the clients begin, so that an append is one UPDATE. Each client
+is a connection, in a thread of its own. It makes a table `sgt_lists`, and drops it first. A transaction counts as
+aborted if a statement failed and the rollback after it did not: the connection still answers then, so the database has
+undone it. Where the rollback fails as well, nobody knows its end. """
 
 from __future__ import annotations
 
@@ -84,7 +85,7 @@ def main() -> int:
     options = argparse.ArgumentParser(description=__doc__, formatter_class=argparse.RawDescriptionHelpFormatter)
     options.add_argument("--driver", required=True, help="the driver's module, as psycopg2")
     options.add_argument("--dsn", required=True, help="what its connect takes: a text, or a JSON object of arguments")
-    options.add_argument("--begin", default="", help="a statement before each transaction: it begins it, or sets its level")
+    options.add_argument("--begin", default="", help="a statement that begins a transaction, or sets its level")
     options.add_argument("--append", default="list || ' {}'", help="the list with a value added, for which {} stands")
     options.add_argument("--clients", type=int, default=5)
     options.add_argument("--transactions", type=int, default=200)

@@ -3,12 +3,12 @@
 
     engine.py ./sgt | ./sgt check --model list-append
 
-The engine stores numbers and no lists. So a list is a number, and its digits are its values: 0 is the empty list, and an append of 5
-makes 12 to 125. A list has at most nine values, 1 to 9, each once. A record that is not there is an empty list.
+The engine stores numbers and no lists. So a list is a number, and its digits are its values: 0 is the empty list, and
+an append of 5 makes 12 to 125. A list has at most nine values, 1 to 9, each once. A record that is not there is an
+empty list.
 
-A bank runs the jobs on threads and reports their answers, but not when they ran. So the history has only ends. Its last one reads all
-keys: it is the committed database, which the bank prints when its jobs are done.
-"""
+A bank runs the jobs on threads and reports their answers, but not when they ran. So the history has only ends. Its last
+one reads all keys: it is the committed database, which the bank prints when its jobs are done. """
 
 from __future__ import annotations
 
@@ -35,8 +35,8 @@ def append(key, value):
 
 
 ANSWERS = [["answer", ["reg", 0]], ["answer", ["reg", 1]]]
-# Append, then read another list; read, then append to another; read two lists. Their arguments: key, value, key; key, key, value;
-# key, key.
+# Append, then read another list; read, then append to another; read two lists. Their arguments: key, value, key; key,
+# key, value; key, key.
 PROCEDURES = [
     [3, [*append(0, 1), read(0, 2), ANSWERS[0]]],
     [3, [read(0, 0), *append(1, 2), ANSWERS[0]]],
@@ -93,16 +93,19 @@ def main() -> int:
     lists = Lists(random.Random(chosen.seed))
     jobs = [lists.job() for _ in range(chosen.jobs)]
     opening = {"limits": [32, 100 * chosen.jobs], "accounts": [], "procedures": PROCEDURES}
-    given = "".join(json.dumps(it) + "\n" for it in [opening, *(["job", number, arguments] for number, arguments, _ in jobs)])
-    ran = subprocess.run([chosen.program, "bank", "--workers", str(WORKERS)], input=given, capture_output=True, text=True, check=False)
+    lines = [opening, *(["job", number, arguments] for number, arguments, _ in jobs)]
+    given = "".join(json.dumps(it) + "\n" for it in lines)
+    words = [chosen.program, "bank", "--workers", str(WORKERS)]
+    ran = subprocess.run(words, input=given, capture_output=True, text=True, check=False)
     if ran.returncode:
         stop(f"{chosen.program} says: {ran.stderr.strip()}")
-    history, lines = History(), [line.split() for line in ran.stdout.splitlines()]
-    for (_, _, operations), (number, outcome, *answers) in zip(jobs, lines):
+    history, reported = History(), [line.split() for line in ran.stdout.splitlines()]
+    for (_, _, operations), (number, outcome, *answers) in zip(jobs, reported):
         committed = outcome == "committed"
         history.add("ok" if committed else "fail", int(number), as_seen(operations, answers) if committed else [])
-    records = dict(lines[len(jobs):])
-    history.add("ok", len(jobs), [["r", key, digits(records.get(f"{TABLE}/{key}", ""))] for key in range(1, lists.fresh)])
+    records = dict(reported[len(jobs):])
+    reads = [["r", key, digits(records.get(f"{TABLE}/{key}", ""))] for key in range(1, lists.fresh)]
+    history.add("ok", len(jobs), reads)
     return history.finish()
 
 

@@ -4,10 +4,9 @@
     mariadb.py --level serializable | sgt check --model list-append
     mariadb.py --temporary --level "repeatable read" > history.json
 
-A list is a row with a text. Each client is a `mariadb` of its own, which connects to the database `sgt` as its option files say. It makes
-a table `sgt_lists`, and drops it first. With --temporary a server of its own is made in a folder, and removed. The level `snapshot` is
-repeatable read with innodb_snapshot_isolation.
-"""
+A list is a row with a text. Each client is a `mariadb` of its own, which connects to the database `sgt` as its option
+files say. It makes a table `sgt_lists`, and drops it first. With --temporary a server of its own is made in a folder,
+and removed. The level `snapshot` is repeatable read with innodb_snapshot_isolation. """
 
 from __future__ import annotations
 
@@ -25,13 +24,14 @@ from contextlib import contextmanager
 from typing import Iterator, Sequence
 
 sys.dont_write_bytecode = True
-from recorder import Aborted, Operation, Plan, call, record, stop  # noqa: E402
+from recorder import Aborted, Operation, Plan, asked, call, piped, record, stop  # noqa: E402
 
 TABLE = "drop table if exists sgt_lists; create table sgt_lists (id int primary key, list text not null) engine=innodb"
 LEVELS = ("read uncommitted", "read committed", "repeatable read", "snapshot", "serializable")
 SECONDS = 600
 
-# The numbers of the errors of an abort: the record has changed since the snapshot, a lock was not to be had, a deadlock.
+# The numbers of the errors of an abort: the record has changed since the snapshot, a lock was not to be had, a
+# deadlock.
 ABORTS = ("1020", "1205", "1213")
 
 
@@ -40,8 +40,7 @@ class Client:
 
     def __init__(self, words: Sequence[str], level: str, seed: int) -> None:
         self.draw = random.Random(seed)
-        self.mariadb = subprocess.Popen([*words, "--force", "--unbuffered"], stdin=subprocess.PIPE, stdout=subprocess.PIPE,
-                                        stderr=subprocess.STDOUT, text=True, bufsize=1)
+        self.mariadb = piped([*words, "--force", "--unbuffered"])
         self.ask("set innodb_lock_wait_timeout = 2")
         if level == "snapshot":
             self.ask("set innodb_snapshot_isolation = on")
@@ -49,15 +48,7 @@ class Client:
 
     def ask(self, statement: str) -> list[str]:
         """The lines of its answer. An error that is no abort ends the client."""
-        lines: list[str] = []
-        try:
-            self.mariadb.stdin.write(f"{statement};\nselect 'done';\n")
-        except BrokenPipeError:
-            pass  # it has ended, and said why
-        while (line := self.mariadb.stdout.readline()) != "done\n":
-            if not line:
-                raise ConnectionError(f"mariadb has ended: {' '.join(lines)}")
-            lines.append(line.rstrip("\n"))
+        lines, _ = asked(self.mariadb, f"{statement};\nselect 'done';\n", "done")
         errors = [it for it in lines if it.startswith("ERROR ")]
         if errors and all(it.split()[1] in ABORTS for it in errors):
             raise Aborted(re.sub(" at line [0-9]+", "", " ".join(errors)))
@@ -78,7 +69,8 @@ class Client:
     def do(self, word: str, key: int, value: int) -> Operation:
         time.sleep(self.draw.random() / 300)
         if word == "append":
-            self.ask(f"insert into sgt_lists values ({key}, '{value}') on duplicate key update list = concat(list, ' {value}')")
+            self.ask(f"insert into sgt_lists values ({key}, '{value}') "
+                     f"on duplicate key update list = concat(list, ' {value}')")
             return [word, key, value]
         rows = self.ask(f"select list from sgt_lists where id = {key}")
         return [word, key, [int(it) for it in " ".join(rows).split()]]
@@ -97,14 +89,14 @@ def temporary() -> Iterator[list[str]]:
     """A server in a folder of its own: the words that connect to it."""
     scratch = pathlib.Path(tempfile.mkdtemp())
     share = pathlib.Path(program("mariadbd")).resolve().parents[1] / "share"
-    own = ["--no-defaults", f"--datadir={scratch}/data", f"--lc-messages-dir={share}/mysql", *["--user=root"] * (os.getuid() == 0)]
+    own = ["--no-defaults", f"--datadir={scratch}/data", f"--lc-messages-dir={share}/mysql", "--skip-grant-tables",
+           "--skip-networking", f"--socket={scratch}/socket", *["--user=root"] * (os.getuid() == 0)]
     words = [program("mariadb"), "--no-defaults", f"--socket={scratch}/socket", "--user=root"]
     server = None
     try:
         (scratch / "data" / "mysql").mkdir(parents=True)
         with open(scratch / "log", "wb") as log:
-            server = subprocess.Popen([program("mariadbd"), *own, "--skip-grant-tables", "--skip-networking", f"--socket={scratch}/socket"],
-                                      stdout=subprocess.DEVNULL, stderr=log)
+            server = subprocess.Popen([program("mariadbd"), *own], stdout=subprocess.DEVNULL, stderr=log)
         wait_for(words, server, scratch / "log")
         call([*words, "-e", "create database sgt"])
         yield words
@@ -118,7 +110,7 @@ def temporary() -> Iterator[list[str]]:
 def wait_for(words: Sequence[str], server: subprocess.Popen[bytes], log: pathlib.Path) -> None:
     """Returns once the server answers."""
     until = time.monotonic() + SECONDS
-    while subprocess.run([*words, "-e", "select 1"], stdout=subprocess.DEVNULL, stderr=subprocess.DEVNULL, check=False).returncode != 0:
+    while subprocess.run([*words, "-e", "select 1"], capture_output=True, check=False).returncode != 0:
         if server.poll() is not None or time.monotonic() > until:
             stop(f"mariadbd did not start: {log.read_text()}")
         time.sleep(0.2)

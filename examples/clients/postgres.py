@@ -4,8 +4,8 @@
     postgres.py --level serializable | sgt check --model list-append
     postgres.py --temporary --level "repeatable read" > history.json
 
-A list is a row with an array. Each client is a `psql` of its own, which connects as PGHOST, PGUSER and so on say. It makes a table
-`sgt_lists`, and drops it first. With --temporary a database of its own is made in a folder, and removed.
+A list is a row with an array. Each client is a `psql` of its own, which connects as PGHOST, PGUSER and so on say. It
+makes a table `sgt_lists`, and drops it first. With --temporary a database of its own is made in a folder, and removed.
 """
 
 from __future__ import annotations
@@ -24,12 +24,14 @@ from contextlib import contextmanager
 from typing import Iterator, Sequence
 
 sys.dont_write_bytecode = True
-from recorder import Aborted, Operation, Plan, call, record, stop  # noqa: E402
+from recorder import Aborted, Operation, Plan, asked, call, piped, record, stop  # noqa: E402
 
-TABLE = "set client_min_messages = warning; drop table if exists sgt_lists; create table sgt_lists (key int primary key, list int[] not null);"
+TABLE = ("set client_min_messages = warning; drop table if exists sgt_lists; "
+         "create table sgt_lists (key int primary key, list int[] not null)")
 LEVELS = ("read committed", "repeatable read", "serializable")
 DONE = "00000"
-# Of the SQLSTATEs of an abort the first five characters, or two: a rollback, a lock that is not to be had, a call that was ended.
+# Of the SQLSTATEs of an abort the first five characters, or two: a rollback, a lock that is not to be had, a call that
+# was ended.
 ABORTS = ("40", "55P03", "57014")
 
 
@@ -38,20 +40,11 @@ class Client:
 
     def __init__(self, words: Sequence[str], level: str, seed: int) -> None:
         self.level, self.draw = level, random.Random(seed)
-        self.psql = subprocess.Popen(words, stdin=subprocess.PIPE, stdout=subprocess.PIPE, stderr=subprocess.STDOUT, text=True, bufsize=1)
+        self.psql = piped(words)
 
     def ask(self, statement: str) -> list[str]:
         """The lines of its answer. An error that is no abort ends the client."""
-        lines: list[str] = []
-        try:
-            self.psql.stdin.write(f"{statement};\n\\echo done :SQLSTATE\n")
-        except BrokenPipeError:
-            pass  # it has ended, and said why
-        while not (line := self.psql.stdout.readline()).startswith("done "):
-            if not line:
-                raise ConnectionError(f"psql has ended: {' '.join(lines)}")
-            lines.append(line.rstrip("\n"))
-        state = line.split()[1]
+        lines, state = asked(self.psql, f"{statement};\n\\echo done :SQLSTATE\n", "done")
         if state.startswith(ABORTS):
             raise Aborted(" ".join(lines))
         if state != DONE:
@@ -96,7 +89,8 @@ def temporary() -> Iterator[list[str]]:
         server("initdb", "-A", "trust", "-U", "postgres")
         # The server keeps what it is given as output, so that of pg_ctl is a file and no pipe.
         with open(scratch / "start", "wb") as said:
-            words = [*user, found[-1].parent / "pg_ctl", "-D", scratch / "data", "-o", f"-k {scratch} -h ''", "-l", scratch / "log", "-t", "600", "-w", "start"]
+            start = ["-o", f"-k {scratch} -h ''", "-l", str(scratch / "log"), "-t", "600", "-w", "start"]
+            words = [*user, str(found[-1].parent / "pg_ctl"), "-D", str(scratch / "data"), *start]
             if subprocess.run(words, stdout=said, stderr=said, cwd=scratch, check=False).returncode:
                 stop((scratch / "start").read_text() + (scratch / "log").read_text())
         try:

@@ -1,8 +1,10 @@
-"""What the recorders share: drawn transactions on lists, a history of what their clients did and were answered, and what is said at the end."""
+"""What the recorders share: drawn transactions on lists, a history of what their clients did and were answered, and
+what is said at the end."""
 
 from __future__ import annotations
 
 import collections
+import contextlib
 import itertools
 import json
 import random
@@ -32,27 +34,49 @@ def stop(text: object) -> NoReturn:
 def call(words: Sequence[object], **how: Any) -> None:
     """Runs a program. If it fails, what it says is the recorder's error."""
     try:
-        ran = subprocess.run([str(it) for it in words], stdin=subprocess.DEVNULL, capture_output=True, text=True, check=False, **how)
+        asked_for = [str(it) for it in words]
+        ran = subprocess.run(asked_for, stdin=subprocess.DEVNULL, capture_output=True, text=True, check=False, **how)
     except FileNotFoundError as why:
         stop(f"{why.filename} is missing")
     if ran.returncode:
         stop(f"{words[0]} says: {(ran.stderr or ran.stdout).strip()}")
 
 
+def piped(words: Sequence[str]) -> subprocess.Popen[str]:
+    """A database's shell, which reads statements from a pipe."""
+    return subprocess.Popen(words, stdin=subprocess.PIPE, stdout=subprocess.PIPE, stderr=subprocess.STDOUT,
+                            text=True, bufsize=1)
+
+
+def asked(shell: subprocess.Popen[str], statements: str, end: str) -> tuple[list[str], str]:
+    """The lines of the shell's answer before the one that begins with this end, and the rest of that one."""
+    assert shell.stdin and shell.stdout  # of `piped`
+    with contextlib.suppress(BrokenPipeError):  # it has ended, and said why
+        shell.stdin.write(statements)
+    lines: list[str] = []
+    for line in shell.stdout:
+        if line.split()[:1] == [end]:
+            return lines, line[len(end):].strip()
+        lines.append(line.rstrip("\n"))
+    raise ConnectionError(f"the database's shell has ended: {' '.join(lines)}")
+
+
 class Client(Protocol):
     """One client of the database."""
 
     def run(self, operations: Sequence[Operation]) -> list[Operation]:
-        """Runs these as a transaction, and returns them with what was read. It raises Aborted if it was certainly aborted; after any
-        other exception its end is unknown, and the client is not used again."""
+        """Runs these as a transaction, and returns them with what was read. It raises Aborted if it was certainly
+        aborted; after any other exception its end is unknown, and the client is not used again."""
         ...
 
 
 class History:
-    """Entries as Jepsen writes them, in the order in which they happen; how often which error aborted; and how clients ended early."""
+    """Entries as Jepsen writes them, in the order in which they happen; how often which error aborted; and how clients
+    ended early."""
 
     def __init__(self) -> None:
-        self.lock, self.entries, self.began = threading.Lock(), [], time.monotonic_ns()
+        self.lock, self.began = threading.Lock(), time.monotonic_ns()
+        self.entries: list[dict[str, Any]] = []
         self.aborts: collections.Counter[str] = collections.Counter()
         self.failures: list[str] = []
 
@@ -77,8 +101,8 @@ class History:
 
 
 class Plan:
-    """Drawn transactions: some of them only read. Each value is appended once. Of so many keys that are in use, one is replaced after
-    so many appends, so that lists stay short."""
+    """Drawn transactions: some of them only read. Each value is appended once. Of so many keys that are in use, one is
+    replaced after so many appends, so that lists stay short."""
 
     def __init__(self, seed: int, keys: int = 3, appends: int = 8) -> None:
         self.draw, self.lock = random.Random(seed), threading.Lock()
@@ -139,11 +163,13 @@ def run(history: History, plan: Plan, client: Client, process: int, transactions
 
 
 def record(plan: Plan, clients: Sequence[Client], transactions: int, last_reader: Optional[Client] = None) -> History:
-    """The history of these clients, each in a thread. When they have ended, the last reader reads all keys in one transaction, which shows
-    the order of the last appends. That is the first client if none is given and it has not ended early."""
+    """The history of these clients, each in a thread. When they have ended, the last reader reads all keys in one
+    transaction, which shows the order of the last appends. That is the first client if none is given and it has not
+    ended early."""
     history = History()
     share = transactions // len(clients)
-    threads = [threading.Thread(target=run, args=(history, plan, it, number, share)) for number, it in enumerate(clients)]
+    given = [(history, plan, it, number, share) for number, it in enumerate(clients)]
+    threads = [threading.Thread(target=run, args=it) for it in given]
     for thread in threads:
         thread.start()
     for thread in threads:
@@ -155,7 +181,8 @@ def record(plan: Plan, clients: Sequence[Client], transactions: int, last_reader
 
 
 def read_all(history: History, plan: Plan, reader: Client, process: int) -> None:
-    """Reads all keys as a process of its own. It is tried again a few times, as the database may still undo what others did."""
+    """Reads all keys as a process of its own. It is tried again a few times, as the database may still undo what others
+    did."""
     try:
         for _ in range(5):
             if attempt(history, reader, process, plan.all_reads()):

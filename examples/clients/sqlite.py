@@ -18,6 +18,8 @@ from typing import Sequence
 sys.dont_write_bytecode = True
 from recorder import Aborted, Operation, Plan, record  # noqa: E402
 
+APPEND = "insert into lists values (?, ?) on conflict (key) do update set list = list || ' ' || ?"
+
 
 class Client:
     def __init__(self, path: str) -> None:
@@ -36,7 +38,7 @@ class Client:
 
     def do(self, word: str, key: int, value: int) -> Operation:
         if word == "append":
-            self.database.execute("insert into lists values (?, ?) on conflict (key) do update set list = list || ' ' || ?", (key, str(value), value))
+            self.database.execute(APPEND, (key, str(value), value))
             return [word, key, value]
         row = self.database.execute("select list from lists where key = ?", (key,)).fetchone()
         return [word, key, [int(it) for it in row[0].split()] if row else []]
