@@ -10,7 +10,8 @@ The driver follows DB-API 2 (PEP 249), as most do.
 A list is a row with a text. All rows are there before the clients begin, so that an append is one UPDATE. Each client
 is a connection, in a thread of its own. It makes a table `sgt_lists`, and drops it first. A transaction counts as
 aborted if a statement failed and the rollback after it did not: the connection still answers then, so the database has
-undone it. Where the rollback fails as well, nobody knows its end. """
+undone it. Where the rollback fails as well, nobody knows its end.
+"""
 
 from __future__ import annotations
 

@@ -8,7 +8,8 @@ an append of 5 makes 12 to 125. A list has at most nine values, 1 to 9, each onc
 empty list.
 
 A bank runs the jobs on threads and reports their answers, but not when they ran. So the history has only ends. Its last
-one reads all keys: it is the committed database, which the bank prints when its jobs are done. """
+one reads all keys: it is the committed database, which the bank prints when its jobs are done.
+"""
 
 from __future__ import annotations
 

@@ -6,7 +6,8 @@
 
 A list is a row with a text. Each client is a `mariadb` of its own, which connects to the database `sgt` as its option
 files say. It makes a table `sgt_lists`, and drops it first. With --temporary a server of its own is made in a folder,
-and removed. The level `snapshot` is repeatable read with innodb_snapshot_isolation. """
+and removed. The level `snapshot` is repeatable read with innodb_snapshot_isolation.
+"""
 
 from __future__ import annotations
 
