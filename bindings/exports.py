@@ -1,7 +1,9 @@
 #!/usr/bin/env python3
 """Writes the crate of the functions that the library for C exports: each calls the proved function of its name in crates/sgt_c.
 
-    bindings/exports.py SOURCES FILE        SOURCES: crates/sgt_c/src; FILE: src/lib.rt of the crate that is written
+    bindings/exports.py SOURCES FILE        SOURCES: crates/sgt_c/src; FILE: src/lib.rt of the crate that is written, or src/main.rt
+
+A program, main.rt, has a `main` that mentions each of them, so that all are compiled. It is never run.
 
 The calls of sgt.h are defined by c/sgt_checked.c, which tests pointers first, so `proved_` stands before their names here. A function
 passes on what it is given, in its order, and returns what it gets. So no contract is needed here: those of crates/sgt_c hold.
@@ -29,6 +31,16 @@ pub extern "C" fn %(export)s(%(parameters)s)%(result)s {
 """
 
 
+MENTION = """
+fn any<T>() -> T {
+    loop {}
+}
+
+fn main() {
+%s}
+"""
+
+
 class Function(NamedTuple):
     """A public function of sgt_c."""
 
@@ -37,6 +49,10 @@ class Function(NamedTuple):
     parameters: list[tuple[str, str]]
     # Empty, or an arrow and the type of the result.
     result: str
+
+    def export(self) -> str:
+        """The name under which C calls it."""
+        return self.name if self.name.startswith("sgt_desk_") else f"proved_{self.name}"
 
 
 def functions_in(text: str) -> list[Function]:
@@ -49,16 +65,24 @@ def text_of(functions: list[Function]) -> str:
     """The text of the crate."""
     types = {word for it in functions for _, kind in it.parameters for word in re.findall(r"\b[A-Z]\w*", kind)}
     text = HEAD % ", ".join(sorted(types - {"Global"}))
-    for name, parameters, result in functions:
+    for it in functions:
         text += EXPORT % {
-            "name": name,
-            "export": name if name.startswith("sgt_desk_") else f"proved_{name}",
-            "parameters": ", ".join(f"{it}: {kind}" for it, kind in parameters),
-            "arguments": ", ".join(it for it, _ in parameters),
-            "result": result,
-            "end": "" if result else ";",
+            "name": it.name,
+            "export": it.export(),
+            "parameters": ", ".join(f"{name}: {kind}" for name, kind in it.parameters),
+            "arguments": ", ".join(name for name, _ in it.parameters),
+            "result": it.result,
+            "end": "" if it.result else ";",
         }
     return text
+
+
+def main_of(functions: list[Function]) -> str:
+    """A program's `main` that mentions each function."""
+    lines = ""
+    for it in functions:
+        lines += f"    {'let _ = ' if it.result else ''}{it.export()}({', '.join('any()' for _ in it.parameters)});\n"
+    return MENTION % lines
 
 
 def main() -> None:
@@ -72,7 +96,7 @@ def main() -> None:
     if sorted(it.name for it in functions) != sorted(public):
         sys.exit(f"{sys.argv[0]}: the functions that are found are not those that {sources}/lib.rt makes public")
     file.parent.mkdir(parents=True, exist_ok=True)
-    file.write_text(text_of(functions), "utf-8")
+    file.write_text(text_of(functions) + (main_of(functions) if file.name == "main.rt" else ""), "utf-8")
 
 
 if __name__ == "__main__":

@@ -612,7 +612,8 @@ uint32_t sgt_explain_procedure(uint64_t number, const char *procedure, size_t le
 
 /*
  * The rest takes no engine and is not proved. The version is that of this header. sgt_version returns that of the linked
- * library, so that a program can compare the two. sgt_status_text returns a sentence for a status. Do not free either text.
+ * library, so that a program can compare the two. It ends in "+unproved" if the library was compiled without proof.
+ * sgt_status_text returns a sentence for a status. Do not free either text.
  *
  * A library serves programs that were compiled with headers of the same major and minor number, if its patch number is
  * not lower. A patch adds calls and numbers at most. With another minor number structs and calls may differ: compile

@@ -9,6 +9,7 @@ the witness is tested by what was observed. So are the levels of isolation, by t
 counts the cases.
 """
 
+import contextlib
 import itertools
 import json
 import os
@@ -1213,13 +1214,100 @@ def records_databases(program):
         if why := missing_of(name):
             reported.append(f"{name} left out, {why}")
             continue
-        words = [CLIENTS / name, "--temporary", "--level", "serializable", "--transactions", "60"]
-        ran = subprocess.run(words, capture_output=True, timeout=10 * SECONDS, check=False)
-        same(f"status of {name}", (0, b""), (ran.returncode, ran.stderr))
-        status, text, errors = check(program, ran.stdout)
-        same(f"report on {name}", (0, "", True), (status, errors, text.splitlines()[1].startswith("serializable yes: t")))
+        is_serializable(program, name, "--temporary", "--level", "serializable", "--transactions", "60")
         reported.append(f"{name} serializable")
     return ", ".join(reported)
+
+
+def recorded(name, *words, env=None):
+    """Status, standard output and standard error of a recorder."""
+    how = {"env": {**os.environ, "LC_ALL": "C", **(env or {})}, "capture_output": True, "text": True, "timeout": 10 * SECONDS}
+    ran = subprocess.run([sys.executable, CLIENTS / name, *words], check=False, **how)
+    return ran.returncode, ran.stdout, ran.stderr
+
+
+def is_serializable(program, name, *words):
+    """A recorder ends well, says no more than which errors aborted, and reads all keys at last. Its history is serializable."""
+    status, history, errors = recorded(name, *words)
+    same(f"status of {name}", 0, status)
+    same(f"what {name} says besides aborts", [], [it for it in errors.splitlines() if not re.match(r"\d+ (aborted: .|more kinds of errors$)", it)])
+    status, text, errors = check(program, history)
+    same(f"report on {name}", (0, "", True), (status, errors, text.splitlines()[1].startswith("serializable yes: t")))
+    entries = [json.loads(it) for it in history.splitlines()]
+    keys = {key for it in entries for _, key, _ in it["value"]}
+    same(f"the last reads of {name}", sorted(["r", it] for it in keys), sorted(it[:2] for it in entries[-1]["value"]))
+    same(f"the last end of {name}", "ok", entries[-1]["type"])
+
+
+def records_what_is_always_here(program):
+    """SQLite by its own recorder and by DB-API 2, and this engine."""
+    with tempfile.TemporaryDirectory() as folder:
+        by_driver = ("--driver", "sqlite3", "--dsn", os.path.join(folder, "lists.db"), "--begin", "begin")
+        for words in (("sqlite.py",), ("dbapi.py", *by_driver), ("engine.py", os.path.abspath(program))):
+            is_serializable(program, *words, "--seed", "5")
+
+
+def recorders_say_what_they_take(_):
+    names = [it.name for it in sorted(CLIENTS.glob("*.py")) if it.name != "recorder.py"]
+    for name in names:
+        status, text, errors = recorded(name, "--help")
+        same(f"{name} --help", (0, "", True), (status, errors, text.startswith(f"usage: {name}") and "sgt check --model list-append" in text))
+    return ", ".join(names)
+
+
+def recorders_show_the_error_of_what_does_not_answer(program):
+    """The database's own, in one line or more, with status 2, no history and no trace of Python."""
+    missing = {"PGHOST": "/missing/folder"}
+    asked = [
+        (("dbapi.py", "--driver", "sqlite3", "--dsn", "/missing/folder/it.db"), "unable to open database file"),
+        (("dbapi.py", "--driver", "sqlite3", "--dsn", "{"), "sqlite3 says: "),
+        (("dbapi.py", "--driver", "no_such_driver", "--dsn", "it"), "No module named 'no_such_driver'"),
+        (("engine.py", os.path.abspath(program), "--jobs", "0"), "bad limits"),
+        *([(("postgres.py",), 'connection to server on socket "/missing/folder')] if shutil.which("psql") else []),
+    ]
+    for words, wanted in asked:
+        status, text, errors = recorded(*words, env=missing)
+        same(f"{words}: status and output", (2, ""), (status, text))
+        same(f"{words}: {errors!r} has {wanted!r}", True, wanted in errors and "Traceback" not in errors)
+    return None if shutil.which("psql") else "without PostgreSQL: there is no psql on this machine"
+
+
+def recorders_go_on_when_a_client_is_lost(program):
+    """A client that ends early is named, and its transaction is unknown; the others go on, and the status is 2."""
+    sys.path.insert(0, str(CLIENTS))
+    import recorder
+
+    class Lost:
+        """A client of lists in memory, which is lost at its third transaction, or aborts each second one."""
+
+        def __init__(self, lists, is_lost):
+            self.lists, self.is_lost, self.count = lists, is_lost, 0
+
+        def run(self, operations):
+            self.count += 1
+            if self.is_lost and self.count == 3:
+                raise ConnectionError("the server is gone")
+            if self.count % 2 == 0:
+                raise recorder.Aborted("it is even")
+            return [self.do(*it) for it in operations]
+
+        def do(self, word, key, value):
+            if word == "append":
+                self.lists.setdefault(key, []).append(value)
+                return [word, key, value]
+            return [word, key, list(self.lists.get(key, []))]
+
+    lists = {}
+    history = recorder.record(recorder.Plan(1), [Lost(lists, True), Lost(lists, False)], 20, Lost(lists, False))
+    same("what is said", ["client 0 ended, and its last transaction is unknown: the server is gone"], history.failures)
+    same("the aborts", {"it is even": 6}, dict(history.aborts))
+    ends = [it["type"] for it in history.entries if it["type"] != "invoke"]
+    same("the ends", {"ok": 7, "fail": 6, "info": 1}, {kind: ends.count(kind) for kind in ("ok", "fail", "info")})
+    status, text, errors = check(program, history.text())
+    same("the report's first line", (0, "transactions 14: 7 committed, 6 aborted, 1 unknown"), (status, text.splitlines()[0]))
+    same("the last reads", True, all(word == "r" for word, _, _ in history.entries[-1]["value"]))
+    with open(os.devnull, "w", encoding="utf-8") as nowhere, contextlib.redirect_stdout(nowhere), contextlib.redirect_stderr(nowhere):
+        same("the status", 2, history.finish())
 
 
 CASES = [on_all_small_histories, on_drawn_histories, on_drawn_histories_strictly, levels_of_all_small_histories, levels_of_drawn_histories,
@@ -1229,7 +1317,8 @@ CASES = [on_all_small_histories, on_drawn_histories, on_drawn_histories_strictly
          takes_values_with_a_sign, skips_what_is_no_transaction, refuses_nothing,
          refuses_an_end_of_other_operations, keeps_time_only_with_invocations, keeps_time_in_little_memory, says_that_an_end_ends_nothing, says_that_an_end_comes_too_early, says_what_it_takes_for_something_else,
          draws_what_the_lines_above_say, says_what_is_left_out_of_an_order, names_the_entry_that_is_glued, answers_without_time_if_asked, reports_faults, names_the_line_that_is_cut, survives_hostile_bytes, needs_its_model, hints_at_its_model, draws_its_witness, recorded_ones,
-         records_databases]
+         records_databases, records_what_is_always_here, recorders_say_what_they_take, recorders_show_the_error_of_what_does_not_answer,
+         recorders_go_on_when_a_client_is_lost]
 
 if __name__ == "__main__":
     sys.exit(run_cases(CASES, sys.argv[1], of="clients"))

@@ -14,6 +14,7 @@ import random
 import re
 import subprocess
 import sys
+import tempfile
 from functools import cache
 
 sys.dont_write_bytecode = True
@@ -32,7 +33,7 @@ LONGEST = {"README.md": 90, "docs/ARCHITECTURE.md": 180, "bench/FIGURES.md": 140
 PAGES = [
     "README.md",
     "CONTRIBUTING.md",
-    *(f"docs/{name}.md" for name in ("ARCHITECTURE", "DECISIONS", "DEFINITIONS", "FORMATS", "HEADLINE", "LANGUAGE", "LIBRARY", "PROOFS")),
+    *(f"docs/{name}.md" for name in ("ARCHITECTURE", "COMPARED", "DECISIONS", "DEFINITIONS", "FORMATS", "HEADLINE", "LANGUAGE", "LIBRARY", "PROOFS")),
     "bench/FIGURES.md",
     "examples/README.md",
     "examples/programs/README.md",
@@ -344,6 +345,8 @@ LIMITS = [
     ("sgt_model/src/key.rt", "LAST_TABLE", "docs/LANGUAGE.md", "a table is over {}"),
     ("sgt_model/src/limits.rt", "MOST_LIVE", "README.md", "| 1 to {};"),
     ("sgt_model/src/limits.rt", "MOST_LIVE", "docs/FORMATS.md", "from 1 to {};"),
+    ("sgt_model/src/limits.rt", "MOST_LIVE", "docs/COMPARED.md", "At most {} are live"),
+    ("sgt_model/src/limits.rt", "MOST_LIVE", "docs/COMPARED.md", "| {} live |"),
     ("sgt_model/src/limits.rt", "MOST_BEGINS", "README.md", "at most {} started"),
     ("sgt_model/src/limits.rt", "MOST_BEGINS", "docs/FORMATS.md", "from 1 to {}"),
     ("sgt_proc/src/sizes.rt", "MOST_STATEMENTS", "README.md", "{} statements"),
@@ -383,6 +386,16 @@ def have_the_limits_of_the_sources(_sgt):
     return f"{len(LIMITS)} limits"
 
 
+def compare_the_same_databases_throughout(_sgt):
+    """Each table of the comparison has a row for each database of its title, in that order, and says where each side is ahead."""
+    title, *lines = text_of("docs/COMPARED.md").split("\n")
+    wanted = re.findall(r"[\w]+", title.replace(" or ", " "))
+    tables = "\n".join(line for line in lines if not line or line.startswith("|")).split("\n\n")
+    rows = [[line.split("|")[1].strip() for line in table.split("\n")[2:]] for table in map(str.strip, tables) if table]
+    same("the rows", [wanted, wanted], rows)
+    same("who is ahead", ["Where the others are ahead:", "Where sgt is ahead:"], [line for line in lines if line.endswith(" ahead:")])
+
+
 # Commands
 
 
@@ -401,7 +414,7 @@ def consoles():
 def run_as_they_say(sgt):
     commands = list(consoles())
     for page, command, wanted in commands:
-        command = command.replace("crates/sgt/out/sgt", sgt)
+        command = re.sub(r"(?<!\S)\./sgt(?= )", sgt, command)
         env = dict(os.environ, PATH=f"{os.path.dirname(sgt)}:{os.environ['PATH']}")
         ran = subprocess.run(["sh", "-c", command], cwd=TOP, env=env, stdout=subprocess.PIPE, stderr=subprocess.STDOUT, timeout=SECONDS, check=False)
         same(f"{page}: {command}", "".join(line + "\n" for line in wanted), ran.stdout.decode())
@@ -688,6 +701,33 @@ def have_the_procedures_of_the_cookbook(_sgt):
     return f"{len(shown)} procedures"
 
 
+def have_recipes_that_can_be_pasted(sgt):
+    """`examples/cookbook/opening` joins recipes, by their headings and out of files, to a line that the program accepts."""
+    page, make = text_of("examples/cookbook/README.md"), EXAMPLES / "cookbook" / "opening"
+    headings = [part.split("\n", 1)[0] for part in page.split("\n## ")[1:] if "```json" in part]
+    wanted = [json.loads("\n".join(lines)) for lines in blocks_of("examples/cookbook/README.md", "json")]
+    with tempfile.TemporaryDirectory() as folder:
+        pasted = os.path.join(folder, "mine.json")
+        with open(pasted, "w", encoding="utf-8") as file:
+            file.write("\n".join(blocks_of("examples/cookbook/README.md", "json")[0]) + "\n")
+        made = subprocess.run([make, *headings, pasted], capture_output=True, text=True, check=True).stdout
+        same("the procedures", [*wanted, wanted[0]], json.loads(made)["procedures"])
+        same("the lines", 1, made.count("\n"))
+        same("a run", "0 committed 1\n7/9 1\n", answered(sgt, made + '["job",9,[9]]\n'))
+        for name, why in (("nothing", "is no recipe and no file"), (os.path.join(folder, "mine"), "is no recipe"), (str(make), "is no JSON")):
+            ran = subprocess.run([make, name], capture_output=True, text=True, check=False)
+            same(f"what is said of {name}", (2, "", True), (ran.returncode, ran.stdout, why in ran.stderr and ran.stderr.count("\n") == 1))
+    parts = [json.loads(it) for it in re.findall(r"^- `(\[.*\])`$", page, re.M)]
+    opening = {"limits": [1, 9], "accounts": [], "procedures": [[4, [["answer", it] for it in parts]]]}
+    same("a number that is taken apart", "0 committed 21 1234\n", answered(sgt, json.dumps(opening) + '\n["job",5,[0,0,0,21000001234]]\n'))
+    return f"{len(wanted)} recipes"
+
+
+def answered(sgt, text):
+    """What a bank of this input writes."""
+    return subprocess.run([sgt, "bank", "--workers", "1"], input=text, capture_output=True, text=True, timeout=SECONDS, check=True).stdout
+
+
 def have_the_positions_that_the_program_gives(sgt):
     rows = [line for _, line in parts_of("docs/FORMATS.md")[0] if re.match(r"^\| `(\[|\d)[^`]*` \| `(top|[\d ]+)` \|", line)]
     for row in rows:
@@ -712,6 +752,7 @@ def main(path):
         have_the_headline_word_for_word,
         name_each_test_and_tool,
         have_the_limits_of_the_sources,
+        compare_the_same_databases_throughout,
         run_as_they_say,
         name_commands_that_exist,
         have_a_grammar_of_the_examples,
@@ -721,6 +762,7 @@ def main(path):
         name_all_that_is_past_the_specification,
         have_the_five_procedures,
         have_the_procedures_of_the_cookbook,
+        have_recipes_that_can_be_pasted,
     have_the_positions_that_the_program_gives,
     ]
     return run_cases(cases, os.path.abspath(path), of="pages")

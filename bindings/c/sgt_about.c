@@ -7,7 +7,12 @@
 _Static_assert(sizeof SGT_VERSION == sizeof JOINED(SGT_VERSION_MAJOR, SGT_VERSION_MINOR, SGT_VERSION_PATCH),
                "SGT_VERSION is spelled by its three numbers");
 
-const char *sgt_version(void) { return JOINED(SGT_VERSION_MAJOR, SGT_VERSION_MINOR, SGT_VERSION_PATCH); }
+/* bindings/build defines it: "+unproved" of a library that was compiled without proof. */
+#ifndef SGT_SUFFIX
+#define SGT_SUFFIX ""
+#endif
+
+const char *sgt_version(void) { return JOINED(SGT_VERSION_MAJOR, SGT_VERSION_MINOR, SGT_VERSION_PATCH) SGT_SUFFIX; }
 
 const char *sgt_status_text(uint32_t status)
 {

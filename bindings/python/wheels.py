@@ -16,16 +16,17 @@ from typing import Any, Optional
 
 HERE = pathlib.Path(__file__).resolve().parent
 LIBRARY = HERE.parent / "out" / "libsgt.so"
+UNPROVED = LIBRARY.with_name("unproved")  # it is there if the library was compiled without proof
 HEADER = HERE.parent / "sgt.h"
 SUMMARY = "An in-memory transaction engine that schedules by serialization graph testing"
 
 
 def version() -> str:
-    """Returns the version in the header, its only place."""
+    """Returns the version in the header, its only place, and whether the library is not proved, as its own version says it."""
     found = re.search(r'^#define SGT_VERSION "(.*)"$', HEADER.read_text(), re.MULTILINE)
     if not found:
         raise SystemExit("sgt.h has no version")
-    return found[1]
+    return found[1] + ("+unproved" if UNPROVED.exists() else "")
 
 
 def platform() -> str:

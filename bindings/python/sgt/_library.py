@@ -278,13 +278,13 @@ _version.restype = ctypes.c_char_p
 
 
 def version() -> str:
-    """The version of the library."""
+    """The version of the library. It ends in `+unproved` if the library was compiled without proof."""
     return bytes(_version()).decode()
 
 
 def serves(library: str, package: str) -> bool:
     """Whether a library of this version serves the package: it has the same major and minor number, and is not older."""
-    given, wanted = ([int(number) for number in text.split(".")] for text in (library, package))
+    given, wanted = ([int(number) for number in text.partition("+")[0].split(".")] for text in (library, package))
     return given[:2] == wanted[:2] and given >= wanted
 
 

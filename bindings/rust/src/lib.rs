@@ -258,7 +258,7 @@ fn written(
 
 impl std::error::Error for Error {}
 
-/// The version of the library that is linked.
+/// The version of the library that is linked. It ends in `+unproved` if that was compiled without proof.
 pub fn version() -> &'static str {
     // The library returns a text that ends with a zero byte and is never freed.
     unsafe { std::ffi::CStr::from_ptr(c::sgt_version()) }.to_str().unwrap_or_default()
