@@ -827,7 +827,7 @@ def torn_tails():
         calls, data = a_journal(folder / "j")
         whole = data[: data.rindex(b"\n\n") + 1]  # without the mark that the end made
         last = whole.rindex(b"\n\n") + 1
-        batch_number, first, (call,) = unseal(whole[last + 1 : -1])
+        batch_number, first, (call,), _ = unseal(whole[last + 1 : -1])
         for length in range(last, len(whole) + 1):
             calls.write_bytes(whole[:length])
             seq, found, torn = recovered(folder / "j")
@@ -1274,8 +1274,8 @@ def forged(data, amount):
     """A journal whose second line of calls has another amount, with a checksum that fits."""
     lines = data.split(b"\n")
     at = [place for place, line in enumerate(lines) if place > 3 and (unseal(line) or [0, 0, 0])[2]][1]
-    number, first, (call, *_) = unseal(lines[at])
-    lines[at] = seal_batch(number, first - 1, [json.dumps([*call[:4], amount(call[4])])])
+    number, first, (call, *_), writer = unseal(lines[at])
+    lines[at] = seal_batch(number, first - 1, [json.dumps([*call[:4], amount(call[4])])], writer)
     return b"\n".join(lines)
 
 
@@ -1585,13 +1585,15 @@ def promotion():
         old.start()
         old.append(['["day", 20000]'])
         new.start()
-        same("the batches", [[1, 1, opening], [2, 1, [["day", 20_000]]], [3, 2, []]], [unseal(it) for it in journal.batches])
+        *batches, writers = zip(*map(unseal, journal.batches))
+        same("the batches", [(1, 2, 3), (1, 1, 2), (opening, [["day", 20_000]], [])], batches)
+        same("who wrote them", [(old.writer, old.writer, new.writer), True], [writers, old.writer != new.writer])
         same("who leads, and after which call", (True, 1, True), (new.leads, new.bank.seq, old.leads))
         with contextlib.suppress(Fenced):
             old.append(['["day", 20001]'])
             raise Differs("a primary that was replaced has appended a batch")
         new.append(['["day", 20001]'])
-        same("the last batch", [4, 2, [["day", 20_001]]], unseal(journal.batches[-1]))
+        same("the last batch", [4, 2, [["day", 20_001]], new.writer], unseal(journal.batches[-1]))
         said, listens = [], logging.Handler()
         listens.emit = lambda record: said.append(record.getMessage())
         logging.getLogger("payments").addHandler(listens)

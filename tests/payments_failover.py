@@ -1,0 +1,255 @@
+#!/usr/bin/env python3
+"""Tests failovers of the queue of payments of `examples/payments`, by what its clients see, and what a start can say of a journal.
+
+    tests/payments_failover.py crates/sgt/out/sgt [CASE..]
+
+Each client says what it did and saw. `sgt check --model list-append --strict` finds a serial order of that which keeps real time, or the case
+fails. It runs the server as tests/payments.py does, and beside it etcd, Redis and PostgreSQL, where the machine has them. The last line counts
+the cases. With names of cases only those run.
+"""
+
+import contextlib
+import json
+import random
+import re
+import signal
+import subprocess
+import sys
+import threading
+import time
+
+sys.dont_write_bytecode = True
+from helpers.books import Books  # noqa: E402
+from helpers.cases import Differs, run_cases, same  # noqa: E402
+from helpers.link import Link  # noqa: E402
+from helpers.machines import Etcd, Postgres, Redis, running, wait_until  # noqa: E402
+from payments import SECONDS, Group, adjusted, ask, scratch, started  # noqa: E402
+
+SGT = sys.argv[1] if len(sys.argv) > 1 else "crates/sgt/out/sgt"
+CENTS = 5_000
+
+
+def judge(books):
+    """What `sgt check` finds: what primaries replied is serializable in real time, and with what followers replied it is serializable."""
+    words = [SGT, "check", "--model", "list-append"]
+    strict, whole = books.texts()
+    for text, wanted, more in ((whole, "serializable yes: ", []), (strict, "strictly serializable yes: ", ["--strict"])):
+        ran = subprocess.run([*words, *more], input=text, capture_output=True, text=True, timeout=SECONDS, check=False)
+        if ran.returncode or f"\n{wanted}" not in ran.stdout:
+            raise Differs(f"sgt check says {ran.stdout}{ran.stderr}")
+    return ran.stdout.splitlines()[0]
+
+
+class Client:
+    """A client with a connection of its own to a server, which asks one thing at a time."""
+
+    def __init__(self, books, process, server):
+        self.books, self.process, self.link, self.request = books, process, server.connect(), None
+
+    def ask(self, request):
+        """Asks, and does not wait."""
+        self.request = request
+        self.books.begin(self.process, request)
+        self.link.sendall(json.dumps(request).encode() + b"\n")
+        return self
+
+    def reply(self):
+        """What comes, or None if the server ends without a reply."""
+        came = None
+        with contextlib.suppress(ConnectionError):
+            came = json.loads(self.link.makefile().readline() or "null")
+        self.books.end(self.process, self.request, came)
+        return came
+
+
+def linked(journal, node=0):
+    """A link to a journal, or to this node of it; and the address of the journal by this link."""
+    link = Link(journal.ports[node] if isinstance(journal, Etcd) else journal.port)
+    return link, re.sub(r"127\.0\.0\.1:[^/]*", f"127.0.0.1:{link.port}", journal.address)
+
+
+def old_primary(kind):
+    """A primary is cut off after a batch whose reply is lost, and is asked for a balance after another server has acknowledged payments."""
+    if why := kind.missing():
+        return f"left out: {why}"
+    for _ in range(10):  # on a slow machine the first server may be replaced early
+        with contextlib.suppress(Stalled):
+            return cut_off(kind)
+    raise Differs("the first server is replaced before it is cut off, each time")
+
+
+class Stalled(Exception):
+    """The machine is so slow that servers changed before they should."""
+
+
+def cut_off(kind):
+    """See `old_primary`. What the old primary replies to the balance in the end, and what `sgt check` says."""
+    books = Books(1, CENTS, range(1, 100), in_use=2)
+    with scratch() as folder, running(kind, folder) as journal, contextlib.ExitStack() as stack:
+        link, address = linked(journal)
+        stack.enter_context(link)
+
+        def start(name, address, **numbers):
+            words = ("serve", folder / name, "--journal", address, "--cents", CENTS, "--accounts", 100)
+            return stack.enter_context(started(*words, python=journal.python, **adjusted(PATIENCE=SECONDS, **numbers)))
+
+        old = start("old", address)
+        new = start("new", journal.address, LEASE=SECONDS)
+        clients = [Client(books, process, server) for process, server in enumerate((old, old, new, old))]
+        account = books.in_use[0]
+        for _ in range(3):
+            if "paid" not in (clients[0].ask(books.payment()).reply() or {}):
+                raise Stalled
+        figures = ask(folder / "old" / "admin", "figures")
+        same("whether a thread appends, as nothing waits for a mark else", True, figures["append_seconds"] > 0.0005 * figures["batches"])
+        lost = books.payment()
+        batch = ask(folder / "new" / "admin", "health")["batch"]
+        link.lose_replies()
+        clients[1].ask(lost)
+        wait_until(lambda: ask(folder / "new" / "admin", "health")["batch"] > batch, "a batch that is safe, and whose reply is lost")
+        link.cut()
+        wait_until(lambda: ask(folder / "new" / "admin", "health")["leads"], "another server that leads")
+        same("a payment at the new primary", True, clients[2].ask(books.payment()).reply().get("paid"))
+        clients[3].ask({"balance": account})
+        time.sleep(0.5)  # so the old one has it. If it has not, it has nothing to reply wrongly
+        link.heal()
+        came = clients[3].reply()
+        clients[1].reply()
+        for request in books.statements():
+            clients[2].ask(request).reply()
+        return f"the old primary replies {came} in the end; {judge(books)}"
+
+
+def old_primary_over_etcd():
+    """The batch is in etcd, and the next one of both primaries is empty: a batch says who wrote it, so the old one sees that it is not its own."""
+    return old_primary(Etcd)
+
+
+def old_primary_over_redis():
+    """As over etcd."""
+    return old_primary(Redis)
+
+
+def old_primary_over_postgresql():
+    """As over etcd."""
+    return old_primary(Postgres)
+
+
+class Servers(Group):
+    """Three servers, each with a link of its own to the journal."""
+
+    def __init__(self, journal, folder, stack):
+        self.links, self.addresses = zip(*(linked(journal, node) for node in range(3)))
+        for link in self.links:
+            stack.enter_context(link)
+        super().__init__(journal, folder, stack)
+
+    def start(self, number):
+        words = ("serve", self.folder / f"{number}", "--journal", self.addresses[number], "--cents", CENTS, "--accounts", 3_000)
+        how = adjusted(PATIENCE=SECONDS, CUT_AFTER=8_000)
+        self.servers[number] = self.stack.enter_context(started(*words, python=self.journal.python, **how))
+
+    def ask(self, draw, request, books):
+        """What a primary replies, by who asks any server until one does. What a follower replies is noted."""
+        end = time.monotonic() + SECONDS
+        while time.monotonic() < end:
+            with contextlib.suppress(OSError, ValueError), draw.choice(self.servers).connect() as link:
+                link.settimeout(draw.choice((0.5, 2, 8)))  # a patient one waits until a link is whole again
+                link.sendall(json.dumps(request).encode() + b"\n")
+                reply = json.loads(link.makefile().readline())
+                if "error" not in reply and "seconds_old" not in reply:
+                    return reply
+                books.followers += [(request, reply)] if "error" not in reply else []
+            time.sleep(0.02)
+        return None
+
+
+def pays_and_reads(books, process, servers, is_over):
+    """A client: of what it asks the half are payments."""
+    draw = random.Random(process)
+    while not is_over.is_set():
+        request = books.payment() if draw.random() < 0.5 else books.reading()
+        books.begin(process, request)
+        books.end(process, request, servers.ask(draw, request, books))
+        time.sleep(0.02)
+
+
+def is_killed(servers, primary):
+    """The primary is killed, and begins anew."""
+    servers.servers[primary].process.kill()
+    servers.primary(primary)
+
+
+def is_stopped(servers, primary):
+    """The primary is stopped, and wakes when another server leads."""
+    servers.servers[primary].signal(signal.SIGSTOP)
+    servers.primary(primary)
+    servers.servers[primary].signal(signal.SIGCONT)
+
+
+def loses_link(servers, primary):
+    """What the primary appends is safe, and it does not hear of that. Then it is cut off, until another server leads, and has paid."""
+    link = servers.links[primary]
+    link.lose_replies()
+    time.sleep(0.5)
+    link.cut()
+    servers.primary(primary)
+    time.sleep(2)
+    link.heal()
+
+
+def loses_journal(servers, _):
+    """The journal is away for two seconds."""
+    servers.journal.away(2)
+
+
+def histories(kind):
+    """Clients pay and read, at any server, while the primary changes in several ways."""
+    if why := kind.missing():
+        return f"left out: {why}"
+    books, is_over = Books(7, CENTS, range(1, 3_000)), threading.Event()
+    with scratch() as folder, running(kind, folder) as journal, contextlib.ExitStack() as stack:
+        servers = Servers(journal, folder, stack)
+        threads = [threading.Thread(target=pays_and_reads, args=(books, process, servers, is_over)) for process in range(6)]
+        for thread in threads:
+            thread.start()
+        try:
+            for event in (loses_link, is_killed, is_stopped, loses_link, loses_journal):
+                event(servers, servers.primary())
+                wanted = books.replies + 60
+                wait_until(lambda: servers.primary() is not None and books.replies > wanted, "replies after a failover")  # noqa: B023
+        finally:
+            is_over.set()
+            for thread in threads:
+                thread.join()
+        draw = random.Random(1)
+        for request in books.statements():
+            books.begin("last", request)
+            books.end("last", request, servers.ask(draw, request, books))
+        return f"{judge(books)}; {len(books.followers)} replies of followers"
+
+
+def history_over_etcd():
+    """What primaries reply is serializable in real time, whatever becomes of them."""
+    return histories(Etcd)
+
+
+def history_over_redis():
+    """As over etcd."""
+    return histories(Redis)
+
+
+def history_over_postgresql():
+    """As over etcd."""
+    return histories(Postgres)
+
+
+def main():
+    names = sys.argv[2:]
+    cases = [old_primary_over_etcd, old_primary_over_redis, old_primary_over_postgresql]
+    cases += [history_over_etcd, history_over_redis, history_over_postgresql]
+    return run_cases([case for case in cases if not names or case.__name__ in names], of="payments")
+
+
+if __name__ == "__main__":
+    sys.exit(main())
