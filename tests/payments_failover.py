@@ -23,7 +23,7 @@ from helpers.books import Books  # noqa: E402
 from helpers.cases import Differs, run_cases, same  # noqa: E402
 from helpers.link import Link  # noqa: E402
 from helpers.machines import Etcd, Postgres, Redis, running, wait_until  # noqa: E402
-from payments import SECONDS, Group, adjusted, ask, scratch, started  # noqa: E402
+from payments import SECONDS, FileJournal, Group, Server, Store, Unusable, adjusted, ask, bank_of, pay, run, scratch, started  # noqa: E402
 
 SGT = sys.argv[1] if len(sys.argv) > 1 else "crates/sgt/out/sgt"
 CENTS = 5_000
@@ -244,9 +244,135 @@ def history_over_postgresql():
     return histories(Postgres)
 
 
+def lines_of(data):
+    """Where each line of a file of batches begins, and where the last one ends."""
+    return [at + 1 for at in range(len(data)) if data[at : at + 1] == b"\n" and data[at + 1 : at + 2] not in (b"", b"\n")] + [len(data)]
+
+
+def acknowledged(folder, count):
+    """A journal of so many payments, each of a batch of its own and acknowledged, whose server is killed at once. Its file and its bytes."""
+    with Server("serve", folder, "--accounts", 3) as server, server.connect() as client:
+        replies = client.makefile()
+        for number in range(1, count + 1):
+            client.sendall(json.dumps(pay(number, 1, 2, 1)).encode() + b"\n")
+            same("a payment", True, json.loads(replies.readline()).get("paid"))
+        server.process.kill()
+    (calls,) = folder.glob("*.batches")
+    return calls, calls.read_bytes()
+
+
+def refusal(*words):
+    """What a start says that is refused, or that it serves."""
+    try:
+        with Server(*words):
+            return "it serves"
+    except Differs as why:
+        return str(why).partition("the server did not start: ")[2]
+
+
+def lost_batches():
+    """A journal that lost acknowledged batches is refused, and says which: cut at any byte, or with bytes that are garbled from there on."""
+    with scratch() as folder:
+        calls, data = acknowledged(folder / "j", 4)
+        begins = lines_of(data)
+        last, count = len(begins) - 1, 0
+        for size in (0, 1, 2, begins[1] - 2, *range(begins[1] - 1, len(data))):
+            for left in (data[:size], data[:size] + bytes(len(data) - size)):
+                calls.write_bytes(left)
+                count += 1
+                why = re.fullmatch(r"(.*): the line at byte (\d+) is damaged or gone; batch (\d+) stood there, and it was safe(.*)", refused(folder / "j"))
+                if not why:
+                    raise Differs(f"a journal of which {size} bytes are left says {refused(folder / 'j')}")
+                lost = int(why[3])
+                same(f"{size} bytes: the file, and what was safe", (str(calls), f", as was all up to batch {last}" * (lost < last)), (why[1], why[4]))
+                if not (begins[lost - 1] - 1 <= int(why[2]) <= begins[lost - 1] and begins[lost - 1] - 1 <= size < begins[lost]):
+                    raise Differs(f"of a journal of which {size} bytes are left, batch {lost} at byte {why[2]} is named")
+                same("the file", left, calls.read_bytes())
+        for word in ("verify", "show"):
+            same(word, (1, f"payments: {refused(folder / 'j')}\n"), run(word, folder / "j")[::2])
+        same("a start", f"payments: {refused(folder / 'j')}\n", refusal("serve", folder / "j"))
+        calls.write_bytes(data)
+        with Server("serve", folder / "j") as server:
+            same("what is said of the whole journal", [], server.said)
+            same("the payments", 5, server.seq)  # and the call of the day
+    return f"{count} journals"
+
+
+def refused(folder):
+    """Why a journal is refused, or that it is not."""
+    try:
+        FileJournal(folder).lead()
+        return "it is not refused"
+    except Unusable as why:
+        return str(why)
+
+
+def torn_batch():
+    """The beginning of a batch that was never acknowledged is cut off, and the start says so. It goes on after the last one that was."""
+    with scratch() as folder:
+        calls, data = acknowledged(folder / "j", 4)
+        begin, last = lines_of(data)[-2], len(lines_of(data)) - 1
+        torn = data[begin:-9]  # as a next one begins
+        calls.write_bytes(data + b"\n" + torn)
+        with Server("serve", folder / "j") as server:
+            wanted = f"cut off {len(torn)} bytes after batch {last}: the beginning of a batch, which nobody was told of, unless the file was shortened\n"
+            same("what is said", [wanted], server.said)
+            same("the last call", 5, server.seq)
+            same("a payment again", {"id": 4, "paid": True, "from_has": 99_996, "to_has": 100_004}, server.ask(pay(4, 1, 2, 1))[0])
+
+
+def without_mark():
+    """Where the mark is gone, damaged or older, a start goes on with what is there, and says no more than it knows."""
+    with scratch() as folder:
+        calls, data = acknowledged(folder / "j", 4)
+        begins, mark = lines_of(data), folder / "j" / "safe"
+        safe = mark.read_bytes()
+        for text in (None, b"", safe[:-1] + b"7", safe[:9]):
+            for left, seq, said in ((data[: begins[-2]], 4, []), (data[:-5], 4, [f"cut off {len(data) - 5 - begins[-2]} bytes after batch {len(begins) - 2}: "])):
+                calls.write_bytes(left)
+                mark.unlink()
+                if text is not None:
+                    mark.write_bytes(text)
+                with Server("serve", folder / "j") as server:
+                    same("the last call", seq, server.seq)
+                    said += ["the beginning of a batch, which nobody was told of, unless the file was shortened\n"] if said else []
+                    same("what is said", "".join(said), "".join(server.said))
+
+
+def lost_after_snapshot():
+    """What a snapshot has was safe: without a mark a journal that ends before the snapshot is refused, too, and nothing is added to it."""
+    with scratch() as folder:
+        calls, data = acknowledged(folder / "j", 4)
+        begins, journal = lines_of(data), folder / "j"
+        bank = bank_of(journal, FileJournal(journal))
+        same("the snapshot", "", Store(journal).save(len(begins) - 1, bank))
+        for left in (data[: begins[-2]], data[: begins[1]], b""):
+            (journal / "safe").unlink(missing_ok=True)
+            calls.write_bytes(left)
+            wanted = rf"payments: {re.escape(str(calls))}: the line at byte \d+ is damaged or gone; .*batch {len(begins) - 1}\b.*\n"
+            if not re.fullmatch(wanted, error := refusal("serve", journal)):
+                raise Differs(f"a start with {len(left)} bytes says {error}")
+            same("the file", left, calls.read_bytes())
+
+
+def missing_parents():
+    """A start whose folder, or whose socket of administration, is to be made in no folder names what is not there."""
+    with scratch() as folder:
+        none = folder / "none"
+        wanted = f"payments: {none / 'j'}: there is no folder {none} to make it in\n"
+        same("a folder", (1, "", wanted), run("serve", none / "j"))
+        (folder / "file").write_text("")
+        wanted = f"payments: {folder / 'file' / 'j'}: there is no folder {folder / 'file'} to make it in\n"
+        same("a folder in a file", (1, "", wanted), run("serve", folder / "file" / "j"))
+        for path, why in ((none / "admin", "No such file or directory"), (folder / "file", "Address already in use"), (folder / ("x" * 200), "AF_UNIX path too long")):
+            wanted = f"payments: {path}: no socket can be made here: {why}\n"
+            same("a socket", wanted, refusal("serve", folder / "j", "--admin", path))
+
+
 def main():
     names = sys.argv[2:]
-    cases = [old_primary_over_etcd, old_primary_over_redis, old_primary_over_postgresql]
+    cases = [lost_batches, torn_batch, without_mark, lost_after_snapshot, missing_parents]
+    cases += [old_primary_over_etcd, old_primary_over_redis, old_primary_over_postgresql]
     cases += [history_over_etcd, history_over_redis, history_over_postgresql]
     return run_cases([case for case in cases if not names or case.__name__ in names], of="payments")
 

@@ -127,6 +127,8 @@ class Store:
 
     def claim(self) -> None:
         """Makes the folder, and keeps other servers from it. What a killed server has left of a snapshot is removed."""
+        if not self.folder.parent.is_dir():
+            raise Unusable(f"{self.folder}: there is no folder {self.folder.parent} to make it in")
         self.folder.mkdir(0o700, exist_ok=True)
         sync_names(self.folder.parent)
         self._claimed = os.open(self.folder, os.O_RDONLY)

@@ -89,7 +89,8 @@ def main() -> None:
     try:
         {"serve": serve, "show": show, "verify": verify}[words.command](words, open_journal(words))
     except (Unusable, OSError, ValueError) as why:
-        sys.exit(f"payments: {why}" + f": port {words.port}" * ("Address already in use" in str(why)))
+        is_port = isinstance(why, OSError) and "Address already in use" in str(why)
+        sys.exit(f"payments: {why}" + f": port {words.port}" * is_port)
 
 
 if __name__ == "__main__":
