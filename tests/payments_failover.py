@@ -24,6 +24,7 @@ from helpers.cases import Differs, run_cases, same  # noqa: E402
 from helpers.link import Link  # noqa: E402
 from helpers.machines import Etcd, Postgres, Redis, running, wait_until  # noqa: E402
 from payments import SECONDS, FileJournal, Group, Server, Store, Unusable, adjusted, ask, bank_of, pay, run, scratch, started  # noqa: E402
+from server import QUICK  # noqa: E402
 
 SGT = sys.argv[1] if len(sys.argv) > 1 else "crates/sgt/out/sgt"
 CENTS = 5_000
@@ -62,9 +63,9 @@ class Client:
         return came
 
 
-def linked(journal, node=0):
+def linked(journal, node=0, **how):
     """A link to a journal, or to this node of it; and the address of the journal by this link."""
-    link = Link(journal.ports[node] if isinstance(journal, Etcd) else journal.port)
+    link = Link(journal.ports[node] if isinstance(journal, Etcd) else journal.port, **how)
     return link, re.sub(r"127\.0\.0\.1:[^/]*", f"127.0.0.1:{link.port}", journal.address)
 
 
@@ -73,7 +74,7 @@ def old_primary(kind):
     if why := kind.missing():
         return f"left out: {why}"
     for _ in range(10):  # on a slow machine the first server may be replaced early
-        with contextlib.suppress(Stalled):
+        with contextlib.suppress(Stalled, ConnectionError, FileNotFoundError):
             return cut_off(kind)
     raise Differs("the first server is replaced before it is cut off, each time")
 
@@ -86,7 +87,7 @@ def cut_off(kind):
     """See `old_primary`. What the old primary replies to the balance in the end, and what `sgt check` says."""
     books = Books(1, CENTS, range(1, 100), in_use=2)
     with scratch() as folder, running(kind, folder) as journal, contextlib.ExitStack() as stack:
-        link, address = linked(journal)
+        link, address = linked(journal, late=0.002)  # so a thread appends, and the server goes on meanwhile
         stack.enter_context(link)
 
         def start(name, address, **numbers):
@@ -101,7 +102,7 @@ def cut_off(kind):
             if "paid" not in (clients[0].ask(books.payment()).reply() or {}):
                 raise Stalled
         figures = ask(folder / "old" / "admin", "figures")
-        same("whether a thread appends, as nothing waits for a mark else", True, figures["append_seconds"] > 0.0005 * figures["batches"])
+        same("whether a thread appends", True, figures["append_seconds"] > QUICK * figures["batches"])
         lost = books.payment()
         batch = ask(folder / "new" / "admin", "health")["batch"]
         link.lose_replies()
@@ -313,6 +314,10 @@ def torn_batch():
         calls, data = acknowledged(folder / "j", 4)
         begin, last = lines_of(data)[-2], len(lines_of(data)) - 1
         torn = data[begin:-9]  # as a next one begins
+        safe = (folder / "j" / "safe").read_bytes()
+        calls.write_bytes(data + b"\n" + torn + data[-9:])
+        same("a start that has read a batch that may be in memory alone", "it is not refused", refused(folder / "j"))
+        same("the mark", safe, (folder / "j" / "safe").read_bytes())
         calls.write_bytes(data + b"\n" + torn)
         with Server("serve", folder / "j") as server:
             wanted = f"cut off {len(torn)} bytes after batch {last}: the beginning of a batch, which nobody was told of, unless the file was shortened\n"

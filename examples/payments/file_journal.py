@@ -30,27 +30,18 @@ class FileJournal:
         if self._newest.is_symlink() and not self._newest.exists():
             raise Unusable(f"{self.folder / os.readlink(self._newest)}: this file is gone, and with it what was acknowledged in it")
         if not self.paths():
-            self._begin(1)
+            self._begin(self._known() + 1)
         path = self.paths()[-1]
         lines, tail = whole_lines(path, self._known())
-        last = int(path.stem) + len(lines) - 1
-        self.report = self._reported_of(last, tail)
+        self.report = self._reported_of(int(path.stem) + len(lines) - 1, tail)
         self._mark, self._synced = os.open(self._safe, os.O_RDWR | os.O_CREAT, 0o600), 0.0
         self._open(path).truncate(path.stat().st_size - len(tail))
-        self._note(last)
         return True
 
     def _known(self) -> int:
         """The last batch that is known to have been safe, by the mark, if there is one, and by snapshots."""
         mark = unseal(self._safe.read_bytes()) if self._safe.exists() else None
         return max([mark or 0, *(int(it.stem) for it in self.folder.glob("*.snapshot"))])
-
-    def _note(self, number: int) -> None:
-        """Has the mark say that this batch was safe."""
-        os.pwrite(self._mark, seal(b"%15d" % number), 0)
-        if time.monotonic() > self._synced + 1:
-            os.fsync(self._mark)
-            self._synced = time.monotonic()
 
     def _reported_of(self, number: int, tail: bytes) -> str:
         """What a tail after a batch may have held. A killed server leaves the beginning of a line. Anything else is kept in a file."""
@@ -67,23 +58,26 @@ class FileJournal:
         self._file.write(b"\n%b\n" % data)
         self._file.flush()
         os.fsync(self._file)
-        self._note(number)
+        os.pwrite(self._mark, seal(b"%15d" % number), 0)  # not before: what a start has read may be in memory alone
+        if time.monotonic() > self._synced + 1:
+            os.fsync(self._mark)
+            self._synced = time.monotonic()
 
     def check(self) -> None:
         """Nobody else can lead."""
 
     def read(self, number: int) -> list[bytes]:
         """The batches from this one on of the file that has it."""
-        paths = self.paths()
+        known, paths = self._known(), self.paths()  # in this order, as a server may go on meanwhile
         at = bisect_right(paths, self.folder / f"{number:015}.batches") - 1
         if at < 0 and paths:
             raise Missing(f"{self.folder}: batch {number} is missing; the first one is {int(paths[0].stem)}")
         if at < 0:
             return []
-        first, ends = int(paths[at].stem), [int(it.stem) - 1 for it in paths[at + 1 :][:1]]  # where the next file begins
-        lines, tail = whole_lines(paths[at], ends[0] if ends else self._known())
-        if ends and (tail or first + len(lines) - 1 > ends[0]):
-            raise Unusable(f"{paths[at]}: more follows batch {ends[0]}, which was the last one of this file")
+        first, is_last = int(paths[at].stem), at + 1 == len(paths)
+        lines, tail = whole_lines(paths[at], known := known if is_last else int(paths[at + 1].stem) - 1)
+        if not is_last and (tail or first + len(lines) - 1 > known):
+            raise Unusable(f"{paths[at]}: more follows batch {known}, the last one of this file")
         return lines[number - first :]
 
     def stored(self, server: str, number: int, after: int) -> None:

@@ -3,15 +3,19 @@
 import contextlib
 import socket
 import threading
+import time
 
 PASSES, LOSES, CUT = "passes", "loses replies", "is cut"
 
 
 class Link:
-    """Who connects to `port` speaks to the server at another port. No connection outlives a change, but for the loss of replies."""
+    """Who connects to `port` speaks to the server at another port, and gets its replies so many seconds later.
 
-    def __init__(self, target):
-        self.target, self.state, self.pairs, self.lock = target, PASSES, set(), threading.Lock()
+    No connection outlives a change, but for the loss of replies.
+    """
+
+    def __init__(self, target, late=0.0):
+        self.target, self.late, self.state, self.pairs, self.lock = target, late, PASSES, set(), threading.Lock()
         self.listener = socket.create_server(("127.0.0.1", 0))
         self.port = self.listener.getsockname()[1]
         threading.Thread(target=self._accept, daemon=True).start()
@@ -61,6 +65,7 @@ class Link:
         """Passes bytes on until an end is shut."""
         with contextlib.suppress(OSError):
             while data := source.recv(1 << 16):
+                time.sleep(self.late * is_reply)
                 if not (is_reply and self.state == LOSES):
                     sink.sendall(data)
         shut(source, sink)
