@@ -23,7 +23,7 @@ from helpers.books import Books  # noqa: E402
 from helpers.cases import Differs, run_cases, same  # noqa: E402
 from helpers.link import Link  # noqa: E402
 from helpers.machines import Etcd, Postgres, Redis, running, wait_until  # noqa: E402
-from payments import SECONDS, FileJournal, Group, Server, Store, Unusable, adjusted, ask, bank_of, pay, run, scratch, started  # noqa: E402
+from payments import PAYMENTS, SECONDS, FileJournal, Group, Server, Store, Unusable, adjusted, ask, bank_of, pay, run, scratch, started  # noqa: E402
 from server import QUICK  # noqa: E402
 
 SGT = sys.argv[1] if len(sys.argv) > 1 else "crates/sgt/out/sgt"
@@ -245,6 +245,53 @@ def history_over_postgresql():
     return histories(Postgres)
 
 
+# A program that leads a journal in Redis, each of whose connections is gone after what was asked by it. It appends a batch once a replica has
+# the one before, and another one when it is told to.
+WAITS = """
+import sys
+sys.path.insert(0, sys.argv[1])
+from urllib.parse import urlsplit
+from journal import Away
+from redis_journal import RedisJournal
+journal = RedisJournal(urlsplit(sys.argv[2]))
+pool = journal._redis.connection_pool
+release = pool.release
+def drop(connection):
+    connection.disconnect()
+    release(connection)
+pool.release = drop
+def append(number):
+    try:
+        journal.append(number, b"x")
+        return "safe"
+    except Away as why:
+        return str(why)
+journal.lead()
+while append(1) != "safe":
+    pass
+print("leads", flush=True)
+sys.stdin.readline()
+print(append(2))
+"""
+
+
+def broken_links_to_redis():
+    """A batch waits for its replica also where the connection by which it came is gone before that: by another one Redis waits for nothing."""
+    if why := Redis.missing():
+        return f"left out: {why}"
+    with scratch() as folder, running(Redis, folder) as journal:
+        (folder / "replica").mkdir()
+        with running(Redis, folder / "replica", "--replicaof", "127.0.0.1", str(journal.port)) as replica:
+            words = [journal.python, "-c", WAITS, PAYMENTS, journal.address + "?replicas=1"]
+            with subprocess.Popen(words, stdin=subprocess.PIPE, stdout=subprocess.PIPE, text=True) as program:
+                same("the program", "leads\n", program.stdout.readline())
+                with replica.silent():
+                    said = program.communicate("go on\n", timeout=SECONDS)[0]
+    if said == "safe\n" or not said.startswith("Redis: "):
+        raise Differs(f"a batch that no replica has is said to be {said}")
+    return said.strip()
+
+
 def lines_of(data):
     """Where each line of a file of batches begins, and where the last one ends."""
     return [at + 1 for at in range(len(data)) if data[at : at + 1] == b"\n" and data[at + 1 : at + 2] not in (b"", b"\n")] + [len(data)]
@@ -323,7 +370,8 @@ def torn_batch():
             wanted = f"cut off {len(torn)} bytes after batch {last}: the beginning of a batch, which nobody was told of, unless the file was shortened\n"
             same("what is said", [wanted], server.said)
             same("the last call", 5, server.seq)
-            same("a payment again", {"id": 4, "paid": True, "from_has": 99_996, "to_has": 100_004}, server.ask(pay(4, 1, 2, 1))[0])
+            again = pay(4, 1, 2, 1)
+            same("a payment again", {"id": again["id"], "paid": True, "from_has": 99_996, "to_has": 100_004}, server.ask(again)[0])
 
 
 def without_mark():
@@ -369,7 +417,7 @@ def missing_parents():
         (folder / "file").write_text("")
         wanted = f"payments: {folder / 'file' / 'j'}: there is no folder {folder / 'file'} to make it in\n"
         same("a folder in a file", (1, "", wanted), run("serve", folder / "file" / "j"))
-        for path, why in ((none / "admin", "No such file or directory"), (folder / "file", "Address already in use"), (folder / ("x" * 200), "AF_UNIX path too long")):
+        for path, why in ((none / "admin", "no such file or directory"), (folder / "file", "address already in use"), (folder / ("x" * 200), "af_unix path too long")):
             wanted = f"payments: {path}: no socket can be made here: {why}\n"
             same("a socket", wanted, refusal("serve", folder / "j", "--admin", path))
 
@@ -377,7 +425,7 @@ def missing_parents():
 def main():
     names = sys.argv[2:]
     cases = [lost_batches, torn_batch, without_mark, lost_after_snapshot, missing_parents]
-    cases += [old_primary_over_etcd, old_primary_over_redis, old_primary_over_postgresql]
+    cases += [old_primary_over_etcd, old_primary_over_redis, old_primary_over_postgresql, broken_links_to_redis]
     cases += [history_over_etcd, history_over_redis, history_over_postgresql]
     return run_cases([case for case in cases if not names or case.__name__ in names], of="payments")
 

@@ -47,7 +47,7 @@ class Chain:
         """With `renews` the procedures of the opening may be others than those of the journal, if this server leads."""
         self.store, self.journal, self.opening, self.server, self.renews = store, journal, opening, server, renews
         self.leads, self.ends, self.trouble, self.seq = False, False, "", 0  # the trouble is of a follower with the journal
-        self.writer = os.urandom(8).hex()  # no other start of a server has it, so no other one writes the same batch
+        self.writer = os.urandom(8).hex()  # no other start of a server has it, so none writes the same batch
         self.number, self.fresh = max(store.numbers(), default=0), time.monotonic()  # when the bank was as the journal
         self.bank, self._next = store.load(self.number), self.fresh  # when to read on
 

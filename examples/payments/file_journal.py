@@ -74,10 +74,10 @@ class FileJournal:
             raise Missing(f"{self.folder}: batch {number} is missing; the first one is {int(paths[0].stem)}")
         if at < 0:
             return []
-        first, is_last = int(paths[at].stem), at + 1 == len(paths)
-        lines, tail = whole_lines(paths[at], known := known if is_last else int(paths[at + 1].stem) - 1)
-        if not is_last and (tail or first + len(lines) - 1 > known):
-            raise Unusable(f"{paths[at]}: more follows batch {known}, the last one of this file")
+        first, last = int(paths[at].stem), int(paths[at + 1].stem) - 1 if at + 1 < len(paths) else 0  # 0: no file follows
+        lines, tail = whole_lines(paths[at], last or known)
+        if last and (tail or first + len(lines) - 1 > last):
+            raise Unusable(f"{paths[at]}: more follows batch {last}, the last one of this file")
         return lines[number - first :]
 
     def stored(self, server: str, number: int, after: int) -> None:

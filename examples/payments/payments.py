@@ -89,8 +89,7 @@ def main() -> None:
     try:
         {"serve": serve, "show": show, "verify": verify}[words.command](words, open_journal(words))
     except (Unusable, OSError, ValueError) as why:
-        is_port = isinstance(why, OSError) and "Address already in use" in str(why)
-        sys.exit(f"payments: {why}" + f": port {words.port}" * is_port)
+        sys.exit(f"payments: {why}" + f": port {words.port}" * ("Address already in use" in str(why)))
 
 
 if __name__ == "__main__":

@@ -27,7 +27,7 @@ def listen_at(path: pathlib.Path) -> socket.socket:
     try:
         listener.bind(str(path))
     except OSError as why:  # which does not name the path
-        raise Unusable(f"{path}: no socket can be made here: {why.strerror or why}") from None
+        raise Unusable(f"{path}: no socket can be made here: {(why.strerror or str(why)).lower()}") from None
     listener.listen()
     return listener
 

@@ -49,7 +49,7 @@ class Books:
         """A new payment between two of the accounts that are in use."""
         with self.lock:
             payer, payee = self.draw.sample(self.in_use, 2)
-            number = next(self.ids)
+            number = payer * 1_000_000 + next(self.ids)
             while True:
                 amount = self.draw.randrange(1, FREE)
                 more = {account: {**self.amounts[account], number: sign * amount} for account, sign in ((payer, -1), (payee, 1))}
