@@ -863,7 +863,7 @@ def damaged_tails():
         calls.write_bytes(whole[:-20])
         mark(folder / "j", None)
         with Server("serve", folder / "j") as server:
-            said = r"cut off \d+ bytes after batch \d+: the beginning of a batch, which nobody was told of, unless the file was shortened\n"
+            said = r"cut off \d+ bytes after batch \d+: the beginning of a batch, not acknowledged unless the file was shortened\n"
             same("whether it says what the beginning of a line is", True, bool(re.fullmatch(said, "".join(server.said))))
         same("what is kept of it", [], list((folder / "j").glob("*.tail")))
         for size in (1, 60, 200, 250):
@@ -872,7 +872,7 @@ def damaged_tails():
             with Server("serve", folder / "j") as server:
                 said = "".join(server.said)
             lost.append(11 - server.seq)
-            reported = r"if a loss of power tore it, .*; else at most (\d+) that were safe. Kept in (.*)\n"
+            reported = r"if power was lost, .*; else at most (\d+) safe ones. Kept in (.*)\n"
             found = re.fullmatch(rf"cut off (\d+) bytes after batch \d+: {reported}", said)
             if not found or int(found[2]) < lost[-1]:
                 raise Differs(f"of {size} bytes that held {lost[-1]} batches it says {said}")

@@ -1,11 +1,11 @@
 #!/usr/bin/env python3
-"""Tests failovers of the queue of payments of `examples/payments`, by what its clients see, and what a start can say of a journal.
+"""Tests failovers of the queue of payments of `examples/payments` by what clients see, and journals that lost batches.
 
     tests/payments_failover.py crates/sgt/out/sgt [CASE..]
 
-Each client says what it did and saw. `sgt check --model list-append --strict` finds a serial order of that which keeps real time, or the case
-fails. It runs the server as tests/payments.py does, and beside it etcd, Redis and PostgreSQL, where the machine has them. The last line counts
-the cases. With names of cases only those run.
+Each client says what it did and saw. `sgt check --model list-append --strict` finds a serial order of that which keeps
+real time, or the case fails. The server runs as in tests/payments.py, and beside it etcd, Redis and PostgreSQL, where
+the machine has them. The last line counts the cases. With names of cases only those run.
 """
 
 import contextlib
@@ -23,7 +23,9 @@ from helpers.books import Books  # noqa: E402
 from helpers.cases import Differs, run_cases, same  # noqa: E402
 from helpers.link import Link  # noqa: E402
 from helpers.machines import Etcd, Postgres, Redis, running, wait_until  # noqa: E402
-from payments import PAYMENTS, SECONDS, FileJournal, Group, Server, Store, Unusable, adjusted, ask, bank_of, pay, run, scratch, started  # noqa: E402
+from payments import (  # noqa: E402
+    PAYMENTS, SECONDS, FileJournal, Group, Server, Store, Unusable, adjusted, ask, bank_of, pay, run, scratch, started,
+    unseal)
 from server import QUICK  # noqa: E402
 
 SGT = sys.argv[1] if len(sys.argv) > 1 else "crates/sgt/out/sgt"
@@ -31,12 +33,12 @@ CENTS = 5_000
 
 
 def judge(books):
-    """What `sgt check` finds: what primaries replied is serializable in real time, and with what followers replied it is serializable."""
-    words = [SGT, "check", "--model", "list-append"]
+    """Whether what primaries replied is serializable in real time; and with what followers replied, serializable."""
     strict, whole = books.texts()
-    for text, wanted, more in ((whole, "serializable yes: ", []), (strict, "strictly serializable yes: ", ["--strict"])):
-        ran = subprocess.run([*words, *more], input=text, capture_output=True, text=True, timeout=SECONDS, check=False)
-        if ran.returncode or f"\n{wanted}" not in ran.stdout:
+    for text, words in ((whole, ("serializable",)), (strict, ("strictly serializable", "--strict"))):
+        command = [SGT, "check", "--model", "list-append", *words[1:]]
+        ran = subprocess.run(command, input=text, capture_output=True, text=True, timeout=SECONDS, check=False)
+        if ran.returncode or f"\n{words[0]} yes: " not in ran.stdout:
             raise Differs(f"sgt check says {ran.stdout}{ran.stderr}")
     return ran.stdout.splitlines()[0]
 
@@ -70,7 +72,7 @@ def linked(journal, node=0, **how):
 
 
 def old_primary(kind):
-    """A primary is cut off after a batch whose reply is lost, and is asked for a balance after another server has acknowledged payments."""
+    """A primary is cut off after a batch whose reply is lost. It is asked for a balance after another one has paid."""
     if why := kind.missing():
         return f"left out: {why}"
     for _ in range(10):  # on a slow machine the first server may be replaced early
@@ -94,6 +96,9 @@ def cut_off(kind):
             words = ("serve", folder / name, "--journal", address, "--cents", CENTS, "--accounts", 100)
             return stack.enter_context(started(*words, python=journal.python, **adjusted(PATIENCE=SECONDS, **numbers)))
 
+        def health():
+            return ask(folder / "new" / "admin", "health")
+
         old = start("old", address)
         new = start("new", journal.address, LEASE=SECONDS)
         clients = [Client(books, process, server) for process, server in enumerate((old, old, new, old))]
@@ -104,12 +109,12 @@ def cut_off(kind):
         figures = ask(folder / "old" / "admin", "figures")
         same("whether a thread appends", True, figures["append_seconds"] > QUICK * figures["batches"])
         lost = books.payment()
-        batch = ask(folder / "new" / "admin", "health")["batch"]
+        batch = health()["batch"]
         link.lose_replies()
         clients[1].ask(lost)
-        wait_until(lambda: ask(folder / "new" / "admin", "health")["batch"] > batch, "a batch that is safe, and whose reply is lost")
+        wait_until(lambda: health()["batch"] > batch, "a batch that is safe, and whose reply is lost")
         link.cut()
-        wait_until(lambda: ask(folder / "new" / "admin", "health")["leads"], "another server that leads")
+        wait_until(lambda: health()["leads"], "another server that leads")
         same("a payment at the new primary", True, clients[2].ask(books.payment()).reply().get("paid"))
         clients[3].ask({"balance": account})
         time.sleep(0.5)  # so the old one has it. If it has not, it has nothing to reply wrongly
@@ -122,7 +127,7 @@ def cut_off(kind):
 
 
 def old_primary_over_etcd():
-    """The batch is in etcd, and the next one of both primaries is empty: a batch says who wrote it, so the old one sees that it is not its own."""
+    """The batch is in etcd, and the next one of both primaries is empty. The old one sees that it is not its own."""
     return old_primary(Etcd)
 
 
@@ -146,7 +151,8 @@ class Servers(Group):
         super().__init__(journal, folder, stack)
 
     def start(self, number):
-        words = ("serve", self.folder / f"{number}", "--journal", self.addresses[number], "--cents", CENTS, "--accounts", 3_000)
+        words = ("serve", self.folder / f"{number}", "--journal", self.addresses[number])
+        words += ("--cents", CENTS, "--accounts", 3_000)
         how = adjusted(PATIENCE=SECONDS, CUT_AFTER=8_000)
         self.servers[number] = self.stack.enter_context(started(*words, python=self.journal.python, **how))
 
@@ -189,7 +195,7 @@ def is_stopped(servers, primary):
 
 
 def loses_link(servers, primary):
-    """What the primary appends is safe, and it does not hear of that. Then it is cut off, until another server leads, and has paid."""
+    """What the primary appends is safe, and it does not hear of that. Then it is cut off for a time."""
     link = servers.links[primary]
     link.lose_replies()
     time.sleep(0.5)
@@ -211,14 +217,14 @@ def histories(kind):
     books, is_over = Books(7, CENTS, range(1, 3_000)), threading.Event()
     with scratch() as folder, running(kind, folder) as journal, contextlib.ExitStack() as stack:
         servers = Servers(journal, folder, stack)
-        threads = [threading.Thread(target=pays_and_reads, args=(books, process, servers, is_over)) for process in range(6)]
+        threads = [threading.Thread(target=pays_and_reads, args=(books, it, servers, is_over)) for it in range(6)]
         for thread in threads:
             thread.start()
         try:
             for event in (loses_link, is_killed, is_stopped, loses_link, loses_journal):
                 event(servers, servers.primary())
                 wanted = books.replies + 60
-                wait_until(lambda: servers.primary() is not None and books.replies > wanted, "replies after a failover")  # noqa: B023
+                wait_until(lambda: servers.primary() + 1 and books.replies > wanted, "replies")  # noqa: B023
         finally:
             is_over.set()
             for thread in threads:
@@ -245,11 +251,13 @@ def history_over_postgresql():
     return histories(Postgres)
 
 
-# A program that leads a journal in Redis, each of whose connections is gone after what was asked by it. It appends a batch once a replica has
-# the one before, and another one when it is told to.
+# A program that leads a journal in Redis, each of whose connections is gone after what was asked by it. It appends a
+# batch until the replica has it, and another one when it is told to.
 WAITS = """
 import sys
 sys.path.insert(0, sys.argv[1])
+import journal
+journal.LEASE = 600
 from urllib.parse import urlsplit
 from journal import Away
 from redis_journal import RedisJournal
@@ -262,11 +270,11 @@ def drop(connection):
 pool.release = drop
 def append(number):
     try:
-        journal.append(number, b"x")
-        return "safe"
+        if journal.lead():
+            journal.append(number, b"x")
+            return "safe"
     except Away as why:
         return str(why)
-journal.lead()
 while append(1) != "safe":
     pass
 print("leads", flush=True)
@@ -276,7 +284,7 @@ print(append(2))
 
 
 def broken_links_to_redis():
-    """A batch waits for its replica also where the connection by which it came is gone before that: by another one Redis waits for nothing."""
+    """A batch waits for its replica by its own connection. By another one Redis waits for what came by that one."""
     if why := Redis.missing():
         return f"left out: {why}"
     with scratch() as folder, running(Redis, folder) as journal:
@@ -294,11 +302,11 @@ def broken_links_to_redis():
 
 def lines_of(data):
     """Where each line of a file of batches begins, and where the last one ends."""
-    return [at + 1 for at in range(len(data)) if data[at : at + 1] == b"\n" and data[at + 1 : at + 2] not in (b"", b"\n")] + [len(data)]
+    return [found.start() + 1 for found in re.finditer(rb"\n(?=[^\n])", data)] + [len(data)]
 
 
 def acknowledged(folder, count):
-    """A journal of so many payments, each of a batch of its own and acknowledged, whose server is killed at once. Its file and its bytes."""
+    """A journal of so many acknowledged payments, each in a batch of its own. Its file, and its bytes."""
     with Server("serve", folder, "--accounts", 3) as server, server.connect() as client:
         replies = client.makefile()
         for number in range(1, count + 1):
@@ -319,7 +327,7 @@ def refusal(*words):
 
 
 def lost_batches():
-    """A journal that lost acknowledged batches is refused, and says which: cut at any byte, or with bytes that are garbled from there on."""
+    """A journal that lost acknowledged batches is refused, and says which: cut at each byte, or garbled after it."""
     with scratch() as folder:
         calls, data = acknowledged(folder / "j", 4)
         begins = lines_of(data)
@@ -328,13 +336,16 @@ def lost_batches():
             for left in (data[:size], data[:size] + bytes(len(data) - size)):
                 calls.write_bytes(left)
                 count += 1
-                why = re.fullmatch(r"(.*): the line at byte (\d+) is damaged or gone; batch (\d+) stood there, and it was safe(.*)", refused(folder / "j"))
+                said = refused(folder / "j")
+                why = re.fullmatch(r"(.*): the line at byte (\d+) is .*; it had batch (\d+), which was safe(.*)", said)
                 if not why:
-                    raise Differs(f"a journal of which {size} bytes are left says {refused(folder / 'j')}")
-                lost = int(why[3])
-                same(f"{size} bytes: the file, and what was safe", (str(calls), f", as was all up to batch {last}" * (lost < last)), (why[1], why[4]))
-                if not (begins[lost - 1] - 1 <= int(why[2]) <= begins[lost - 1] and begins[lost - 1] - 1 <= size < begins[lost]):
-                    raise Differs(f"of a journal of which {size} bytes are left, batch {lost} at byte {why[2]} is named")
+                    raise Differs(f"a journal of which {size} bytes are left says {said}")
+                at, lost = int(why[2]), int(why[3])
+                more = f", as was all up to batch {last}" if lost < last else ""
+                same("the file, and what was safe", (str(calls), more), why.group(1, 4))
+                begin, end = begins[lost - 1] - 1, begins[lost]
+                if not (begin <= at <= begin + 1 and begin <= size < end):
+                    raise Differs(f"with {size} bytes batch {lost} at byte {at} is named, and it was at {begin}")
                 same("the file", left, calls.read_bytes())
         for word in ("verify", "show"):
             same(word, (1, f"payments: {refused(folder / 'j')}\n"), run(word, folder / "j")[::2])
@@ -355,8 +366,11 @@ def refused(folder):
         return str(why)
 
 
+BEGINNING = "the beginning of a batch, not acknowledged unless the file was shortened\n"
+
+
 def torn_batch():
-    """The beginning of a batch that was never acknowledged is cut off, and the start says so. It goes on after the last one that was."""
+    """The beginning of a batch that was never acknowledged is cut off, and the start says so. What was is there."""
     with scratch() as folder:
         calls, data = acknowledged(folder / "j", 4)
         begin, last = lines_of(data)[-2], len(lines_of(data)) - 1
@@ -367,11 +381,11 @@ def torn_batch():
         same("the mark", safe, (folder / "j" / "safe").read_bytes())
         calls.write_bytes(data + b"\n" + torn)
         with Server("serve", folder / "j") as server:
-            wanted = f"cut off {len(torn)} bytes after batch {last}: the beginning of a batch, which nobody was told of, unless the file was shortened\n"
-            same("what is said", [wanted], server.said)
+            same("what is said", [f"cut off {len(torn)} bytes after batch {last}: {BEGINNING}"], server.said)
             same("the last call", 5, server.seq)
             again = pay(4, 1, 2, 1)
-            same("a payment again", {"id": again["id"], "paid": True, "from_has": 99_996, "to_has": 100_004}, server.ask(again)[0])
+            wanted = {"id": again["id"], "paid": True, "from_has": 99_996, "to_has": 100_004}
+            same("a payment again", [wanted], server.ask(again))
 
 
 def without_mark():
@@ -379,21 +393,23 @@ def without_mark():
     with scratch() as folder:
         calls, data = acknowledged(folder / "j", 4)
         begins, mark = lines_of(data), folder / "j" / "safe"
-        safe = mark.read_bytes()
+        safe, last = mark.read_bytes(), data[begins[-3] : begins[-2]].strip()  # what is left last
+        _, first, its, _ = unseal(last)
         for text in (None, b"", safe[:-1] + b"7", safe[:9]):
-            for left, seq, said in ((data[: begins[-2]], 4, []), (data[:-5], 4, [f"cut off {len(data) - 5 - begins[-2]} bytes after batch {len(begins) - 2}: "])):
+            for left in (data[: begins[-2]], data[:-5]):
                 calls.write_bytes(left)
                 mark.unlink()
                 if text is not None:
                     mark.write_bytes(text)
                 with Server("serve", folder / "j") as server:
-                    same("the last call", seq, server.seq)
-                    said += ["the beginning of a batch, which nobody was told of, unless the file was shortened\n"] if said else []
-                    same("what is said", "".join(said), "".join(server.said))
+                    same("the last call", first - 1 + len(its), server.seq)
+                    cut = len(left) - begins[-2]
+                    said = [f"cut off {cut} bytes after batch {len(begins) - 2}: {BEGINNING}"] if cut else []
+                    same("what is said", said, server.said)
 
 
 def lost_after_snapshot():
-    """What a snapshot has was safe: without a mark a journal that ends before the snapshot is refused, too, and nothing is added to it."""
+    """What a snapshot has was safe: a journal that ends before it is refused, also without a mark, and is left alone."""
     with scratch() as folder:
         calls, data = acknowledged(folder / "j", 4)
         begins, journal = lines_of(data), folder / "j"
@@ -402,7 +418,7 @@ def lost_after_snapshot():
         for left in (data[: begins[-2]], data[: begins[1]], b""):
             (journal / "safe").unlink(missing_ok=True)
             calls.write_bytes(left)
-            wanted = rf"payments: {re.escape(str(calls))}: the line at byte \d+ is damaged or gone; .*batch {len(begins) - 1}\b.*\n"
+            wanted = rf"payments: {re.escape(str(calls))}: the line at byte \d+ is .*batch {len(begins) - 1}\b.*\n"
             if not re.fullmatch(wanted, error := refusal("serve", journal)):
                 raise Differs(f"a start with {len(left)} bytes says {error}")
             same("the file", left, calls.read_bytes())
@@ -417,7 +433,8 @@ def missing_parents():
         (folder / "file").write_text("")
         wanted = f"payments: {folder / 'file' / 'j'}: there is no folder {folder / 'file'} to make it in\n"
         same("a folder in a file", (1, "", wanted), run("serve", folder / "file" / "j"))
-        for path, why in ((none / "admin", "no such file or directory"), (folder / "file", "address already in use"), (folder / ("x" * 200), "af_unix path too long")):
+        sockets = {none / "admin": "no such file or directory", folder / "file": "address already in use"}
+        for path, why in {**sockets, folder / ("x" * 200): "af_unix path too long"}.items():
             wanted = f"payments: {path}: no socket can be made here: {why}\n"
             same("a socket", wanted, refusal("serve", folder / "j", "--admin", path))
 

@@ -17,7 +17,7 @@ Batch = Union[list[Call], Opening]
 
 
 def seal_batch(number: int, seq: int, calls: Union[Sequence[str], Opening], writer: str = "") -> bytes:
-    """A batch as bytes: its number, that of its first call, which follows call `seq`, the entries of its calls, and who writes it."""
+    """A batch as bytes: its number, that of its first call, which follows call `seq`, their entries, who writes it."""
     entries = json.dumps(calls) if isinstance(calls, dict) else f"[{', '.join(calls)}]"
     return seal(f'[{number}, {seq + 1}, {entries}, "{writer}"]'.encode())
 
@@ -46,8 +46,8 @@ class Chain:
     def __init__(self, store: Store, journal: Journal, opening: Opening, server: str, renews: bool = False) -> None:
         """With `renews` the procedures of the opening may be others than those of the journal, if this server leads."""
         self.store, self.journal, self.opening, self.server, self.renews = store, journal, opening, server, renews
-        self.leads, self.ends, self.trouble, self.seq = False, False, "", 0  # the trouble is of a follower with the journal
-        self.writer = os.urandom(8).hex()  # no other start of a server has it, so none writes the same batch
+        # The trouble is of a follower with the journal. No other start of a server has this writer.
+        self.leads, self.ends, self.trouble, self.seq, self.writer = False, False, "", 0, os.urandom(8).hex()
         self.number, self.fresh = max(store.numbers(), default=0), time.monotonic()  # when the bank was as the journal
         self.bank, self._next = store.load(self.number), self.fresh  # when to read on
 

@@ -41,9 +41,10 @@ class Journal(Protocol):
         """Becomes the primary, after which it is not asked again. False if another server is."""
 
     def append(self, number: int, data: bytes) -> None:
-        """Returns once the next batch is safe. `Fenced` if this server does not lead any more: then no later try writes it.
+        """Returns once the next batch is safe. `Fenced` if this server does not lead any more: no later try writes it.
 
-        No other server writes the same bytes, as a batch has who writes it. So where they are, an earlier try has written them.
+        No other server writes the same bytes, as a batch has who writes it. So if they are there, an earlier try has
+        written them.
         """
 
     def check(self) -> None:

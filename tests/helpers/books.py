@@ -1,9 +1,9 @@
-"""What clients of the queue of payments did and saw, as a history of appends to lists, for `sgt check --model list-append`.
+"""What clients of the queue of payments did and saw, as a history for `sgt check --model list-append`.
 
-The list of an account has the ids of its payments. A payment appends its id to the lists of its payer and of its payee, and its reply
-says what both have: so it reads both lists. A balance and a statement read one list. A statement says the order of the ids. A balance
-says which ids they are, as no two sets of an account's payments come to the same sum: they are put in the order of the last statement,
-and if they are not the first ones there, the history is wrong.
+The list of an account has the ids of its payments. A payment appends its id to the lists of its payer and of its payee,
+and its reply says what both have: so it reads both lists. A balance and a statement read one list. A statement says the
+order of the ids. A balance says which ids they are, as no two sets of an account's payments come to the same sum. They
+are put in the order of the last statement: if they are not the first ones there, the history is wrong.
 """
 
 import itertools
@@ -37,7 +37,8 @@ class Books:
     def __init__(self, seed, cents, accounts, in_use=4):
         self.draw, self.cents, self.lock, self.history = random.Random(seed), cents, threading.Lock(), History()
         self.fresh, self.ids = iter(accounts), itertools.count(1)
-        self.amounts, self.followers, self.replies = {}, [], 0  # of each account, by id; what followers replied; replies of primaries
+        # The amounts of each account, by id; what followers replied; and how many replies of primaries there were.
+        self.amounts, self.followers, self.replies = {}, [], 0
         self.in_use = [self._open() for _ in range(in_use)]
 
     def _open(self):
@@ -52,7 +53,8 @@ class Books:
             number = payer * 1_000_000 + next(self.ids)
             while True:
                 amount = self.draw.randrange(1, FREE)
-                more = {account: {**self.amounts[account], number: sign * amount} for account, sign in ((payer, -1), (payee, 1))}
+                parts = {payer: -amount, payee: amount}
+                more = {account: {**self.amounts[account], number: part} for account, part in parts.items()}
                 if all(map(sums, more.values())):
                     break
             self.amounts.update(more)
@@ -118,4 +120,5 @@ def operations(request):
     """The operations of a request, before anything was read."""
     if "amount" not in request:
         return [["r", request.get("balance", request.get("statement")), None]]
-    return [[word, request[key], number] for word, number in (("append", request["id"]), ("r", None)) for key in ("from", "to")]
+    kinds = ("append", request["id"]), ("r", None)
+    return [[word, request[key], number] for word, number in kinds for key in ("from", "to")]
