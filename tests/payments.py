@@ -54,7 +54,7 @@ from file_journal import FileJournal  # noqa: E402
 from front import AT_ONCE, FRONTS, OTHER_FILES, PART, Front  # noqa: E402
 from hundred_partitions import CENTS as CENTS_OF_EACH  # noqa: E402
 from hundred_partitions import SHARES, Simulation, accounts_of, partition_of  # noqa: E402
-from journal import Fenced, Store, store, unseal  # noqa: E402
+from journal import Fenced, Store, seal, store, unseal  # noqa: E402
 from lines import LONGEST, Reader  # noqa: E402
 from sgt import Kind, pack_calls, unpack_calls  # noqa: E402
 
@@ -823,13 +823,21 @@ def a_journal(folder):
     return calls, calls.read_bytes()
 
 
+def mark(folder, number):
+    """Has the mark of a journal say that this batch was safe. Without a number it is gone, as one that a loss of power has taken back."""
+    (folder / "safe").unlink(missing_ok=True)
+    if number is not None:
+        (folder / "safe").write_bytes(seal(b"%15d" % number))
+
+
 def torn_tails():
     """A journal that is cut at each byte of its last batch recovers all before it."""
     with scratch() as folder:
         calls, data = a_journal(folder / "j")
         whole = data[: data.rindex(b"\n\n") + 1]  # without the mark that the end made
         last = whole.rindex(b"\n\n") + 1
-        batch_number, first, (call,) = unseal(whole[last + 1 : -1])
+        batch_number, first, (call,), _ = unseal(whole[last + 1 : -1])
+        mark(folder / "j", batch_number - 1)
         for length in range(last, len(whole) + 1):
             calls.write_bytes(whole[:length])
             seq, found, torn = recovered(folder / "j")
@@ -855,15 +863,18 @@ def damaged_tails():
         calls, data = a_journal(folder / "j")
         whole = data[: data.rindex(b"\n\n") + 1]  # the last seven batches have a call each, and the last one is call 11
         calls.write_bytes(whole[:-20])
+        mark(folder / "j", None)
         with Server("serve", folder / "j") as server:
-            same("what it says of the beginning of a line", 1, "".join(server.said).count("the beginning of a batch that was not safe"))
+            said = r"cut off \d+ bytes after batch \d+: the beginning of a batch, not acknowledged unless the file was shortened\n"
+            same("whether it says what the beginning of a line is", True, bool(re.fullmatch(said, "".join(server.said))))
         same("what is kept of it", [], list((folder / "j").glob("*.tail")))
         for size in (1, 60, 200, 250):
             calls.write_bytes(whole[:-size] + bytes(size))
+            mark(folder / "j", None)
             with Server("serve", folder / "j") as server:
                 said = "".join(server.said)
             lost.append(11 - server.seq)
-            reported = r"if power was lost, .*; else damage to at most (\d+) that were safe. Kept in (.*)\n"
+            reported = r"if power was lost, .*; else at most (\d+) safe ones. Kept in (.*)\n"
             found = re.fullmatch(rf"cut off (\d+) bytes after batch \d+: {reported}", said)
             if not found or int(found[2]) < lost[-1]:
                 raise Differs(f"of {size} bytes that held {lost[-1]} batches it says {said}")
@@ -872,20 +883,21 @@ def damaged_tails():
 
 
 def damage():
-    """A journal with a flipped bit is refused, and its place is named, unless it is the last mark, which loses nothing."""
+    """A journal with a flipped bit is refused, and its place is named. Where no mark says that its last batch was safe, that one is cut off."""
     draw, refused = random.Random(5), 0
     with scratch() as folder:
         calls, data = a_journal(folder / "j")
-        mark = data.rindex(b"\n\n") + 1
+        last = data.rindex(b"\n\n") + 1  # an empty batch, so nothing is lost with it
         wanted = recovered(folder / "j")[:2]
-        number = unseal(data[mark + 1 : -1])[0]
+        number = unseal(data[last + 1 : -1])[0]
         later = as_lines(number + 1, wanted[0], [("pay", 1_000_100, 1, 2, 5)])
         first = data.index(b"\n\n")  # the end of the first batch, which has the procedures
         for at in (*range(0, first - 20, 97), *range(first - 20, len(data), 2)):
             flipped = bytearray(data)
             flipped[at] ^= 1 << draw.randrange(8)
-            for after in (b"", later):
+            for after, safe in ((b"", number), (later, None), *[(b"", None)] * (at >= last)):
                 calls.write_bytes(flipped + after)
+                mark(folder / "j", safe)
                 try:
                     came = recovered(folder / "j")[:2]
                 except Unusable as why:
@@ -894,9 +906,9 @@ def damage():
                     if not found or not int(found[1]) <= at <= data.find(b"\n", int(found[1]) + 1):
                         raise Differs(f"byte {at}: {why}") from None
                     continue
-                if at < mark or after:
+                if at < last or after or safe:
                     raise Differs(f"a flipped bit in byte {at} of {len(data)} was not found")
-                same(f"a flipped bit in byte {at}, of the last mark", wanted, came)
+                same(f"a flipped bit in byte {at}, of the last batch", wanted, came)
         calls.write_bytes(data)
         with Server("serve", folder / "j", **adjusted(CUT_AFTER=1)) as server:
             server.ask(pay(100, 1, 2, 5))
@@ -1014,7 +1026,7 @@ def deletions():
         journal.lead()
         journal.append(1, seal_batch(1, 0, ['["day", 5]']))
         journal.stored("test", 1, 2)
-        wait_until(lambda: names_in(folder) == ["000000000000002.batches", "newest"], "a file that is deleted")
+        wait_until(lambda: names_in(folder) == ["000000000000002.batches", "newest", "safe"], "a file that is deleted")
         same("whether the thread that appends has deleted it", [False], deletes)
 
 
@@ -1034,7 +1046,7 @@ def failed_snapshot():
             health = wait_until(lambda: re.search(r"no snapshot.*", ask(admin, "health")["health"]), "a snapshot that can't be stored")[0]
             if not re.search(r"no snapshot .*\.snapshot: .*too large", health):
                 raise Differs(f"health is {health}")
-            same("the files", ["000000000000001.batches", "admin", "newest"], names_in(folder / "j"))
+            same("the files", ["000000000000001.batches", "admin", "newest", "safe"], names_in(folder / "j"))
             resource.prlimit(server.process.pid, resource.RLIMIT_FSIZE, limits)
             pay_some(server)
             wait_until(lambda: ask(admin, "health")["health"] == "ok", "a snapshot")
@@ -1042,7 +1054,7 @@ def failed_snapshot():
             first = folder / "j" / "000000000000001.batches"
             # If no batch came while the snapshot was stored, none of the first file is needed.
             older = [first] if int(newest.stem) > int(snapshot.stem) + 1 else []
-            wanted = sorted(it.name for it in (snapshot, *older, newest, folder / "admin", folder / "newest"))
+            wanted = sorted(it.name for it in (snapshot, *older, newest, folder / "admin", folder / "newest", folder / "safe"))
             wait_until(lambda: names_in(folder / "j") == wanted, f"the files {wanted}")
             same("whether it goes on in the new file", True, int(snapshot.stem) < int(newest.stem) <= ask(admin, "health")["batch"] + 1)
             wait_until(lambda: pay_some(server) or not first.exists(), "a file of which no batch is needed that is deleted")
@@ -1126,7 +1138,7 @@ def begun_snapshots():
             (folder / "j" / f"{number:015}.new").write_bytes(b"12345678 [")
         (folder / "j" / "notes").write_text("of a user")
         with Server("serve", folder / "j") as server:
-            same("the files", ["000000000000001.batches", "admin", "newest", "notes"], names_in(folder / "j"))
+            same("the files", ["000000000000001.batches", "admin", "newest", "notes", "safe"], names_in(folder / "j"))
             same("the last call", 11, server.seq)
 
 
@@ -1282,8 +1294,8 @@ def forged(data, amount):
     """A journal whose second line of calls has another amount, with a checksum that fits."""
     lines = data.split(b"\n")
     at = [place for place, line in enumerate(lines) if place > 3 and (unseal(line) or [0, 0, 0])[2]][1]
-    number, first, (call, *_) = unseal(lines[at])
-    lines[at] = seal_batch(number, first - 1, [json.dumps([*call[:4], amount(call[4])])])
+    number, first, (call, *_), writer = unseal(lines[at])
+    lines[at] = seal_batch(number, first - 1, [json.dumps([*call[:4], amount(call[4])])], writer)
     return b"\n".join(lines)
 
 
@@ -1293,6 +1305,7 @@ def forged_journal():
         calls, data = a_journal(folder / "j")
         with Server("serve", folder / "j") as server:
             same("verify", 0, run("verify", folder / "j")[0])
+            mark(folder / "j", None)  # it has the batch of this start
             calls.write_bytes(forged(data, lambda amount: amount + 1))
             status, _, error = run("verify", folder / "j")
             if status != 1 or "do not give what is served" not in error:
@@ -1594,13 +1607,15 @@ def promotion():
         old.start()
         old.append(['["day", 20000]'])
         new.start()
-        same("the batches", [[1, 1, opening], [2, 1, [["day", 20_000]]], [3, 2, []]], [unseal(it) for it in journal.batches])
+        *batches, writers = zip(*map(unseal, journal.batches))
+        same("the batches", [(1, 2, 3), (1, 1, 2), (opening, [["day", 20_000]], [])], batches)
+        same("who wrote them", [(old.writer, old.writer, new.writer), True], [writers, old.writer != new.writer])
         same("who leads, and after which call", (True, 1, True), (new.leads, new.bank.seq, old.leads))
         with contextlib.suppress(Fenced):
             old.append(['["day", 20001]'])
             raise Differs("a primary that was replaced has appended a batch")
         new.append(['["day", 20001]'])
-        same("the last batch", [4, 2, [["day", 20_001]]], unseal(journal.batches[-1]))
+        same("the last batch", [4, 2, [["day", 20_001]], new.writer], unseal(journal.batches[-1]))
         said, listens = [], logging.Handler()
         listens.emit = lambda record: said.append(record.getMessage())
         logging.getLogger("payments").addHandler(listens)

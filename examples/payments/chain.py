@@ -2,6 +2,7 @@
 
 import json
 import logging
+import os
 import time
 from typing import Any, Callable, Sequence, Union, cast
 
@@ -15,9 +16,10 @@ Opening = dict[str, Any]  # what a batch has in place of calls: procedures, from
 Batch = Union[list[Call], Opening]
 
 
-def seal_batch(number: int, seq: int, calls: Union[Sequence[str], Opening]) -> bytes:
-    """A batch as bytes: its number, the number of its first call, which follows call `seq`, and the entries of its calls."""
-    return seal(f"[{number}, {seq + 1}, {json.dumps(calls) if isinstance(calls, dict) else '[' + ', '.join(calls) + ']'}]".encode())
+def seal_batch(number: int, seq: int, calls: Union[Sequence[str], Opening], writer: str = "") -> bytes:
+    """A batch as bytes: its number, that of its first call, which follows call `seq`, their entries, who writes it."""
+    entries = json.dumps(calls) if isinstance(calls, dict) else f"[{', '.join(calls)}]"
+    return seal(f'[{number}, {seq + 1}, {entries}, "{writer}"]'.encode())
 
 
 def unseal_batch(data: bytes, number: int, seq: int) -> Batch:
@@ -44,7 +46,8 @@ class Chain:
     def __init__(self, store: Store, journal: Journal, opening: Opening, server: str, renews: bool = False) -> None:
         """With `renews` the procedures of the opening may be others than those of the journal, if this server leads."""
         self.store, self.journal, self.opening, self.server, self.renews = store, journal, opening, server, renews
-        self.leads, self.ends, self.trouble, self.seq = False, False, "", 0  # the trouble is of a follower with the journal
+        # The trouble is of a follower with the journal. No other start of a server has this writer.
+        self.leads, self.ends, self.trouble, self.seq, self.writer = False, False, "", 0, os.urandom(8).hex()
         self.number, self.fresh = max(store.numbers(), default=0), time.monotonic()  # when the bank was as the journal
         self.bank, self._next = store.load(self.number), self.fresh  # when to read on
 
@@ -122,6 +125,6 @@ class Chain:
         """Returns once the calls of these entries are safe, which follow call `seq`. They have run already, but for those of an opening."""
         for at in range(0, max(1, len(calls)), CALLS):
             part: Union[Sequence[str], Opening] = calls[at : at + CALLS] if isinstance(calls, list) else calls
-            number, data = self.number + 1, seal_batch(self.number + 1, self.seq, part)
+            number, data = self.number + 1, seal_batch(self.number + 1, self.seq, part, self.writer)
             self.insist(lambda: self.journal.append(number, data))
             self.number, self.seq = number, self.seq + (len(part) if isinstance(part, list) else 0)

@@ -91,7 +91,7 @@ class EtcdJournal:
 
     def append(self, number: int, data: bytes) -> None:
         reply = self._put(self._batch(number), data, [(self._key("leader"), self._term), (self._batch(number), 0)])
-        # If the value is there, an earlier try has written it.
+        # If the value is there an earlier try has written it, also if another one leads now: it has who writes it.
         if not reply.succeeded and [it.value for it in reply.responses[0].response_range.kvs] != [data]:
             raise Fenced(f"etcd: another primary leads, after batch {number - 1}")
 

@@ -41,7 +41,11 @@ class Journal(Protocol):
         """Becomes the primary, after which it is not asked again. False if another server is."""
 
     def append(self, number: int, data: bytes) -> None:
-        """Returns once the next batch is safe. `Fenced` if this server does not lead any more: then it is not, and never will be, there."""
+        """Returns once the next batch is safe. `Fenced` if this server does not lead any more: no later try writes it.
+
+        No other server writes the same bytes, as a batch has who writes it. So if they are there, an earlier try has
+        written them.
+        """
 
     def check(self) -> None:
         """`Fenced` if this server does not lead any more. Before replies that append nothing, which would report old balances."""
@@ -124,6 +128,8 @@ class Store:
 
     def claim(self) -> None:
         """Makes the folder, and keeps other servers from it. What a killed server has left of a snapshot is removed."""
+        if not self.folder.parent.is_dir():
+            raise Unusable(f"{self.folder}: there is no folder {self.folder.parent} to make it in")
         self.folder.mkdir(0o700, exist_ok=True)
         sync_names(self.folder.parent)
         self._claimed = os.open(self.folder, os.O_RDONLY)

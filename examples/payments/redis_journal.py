@@ -28,8 +28,14 @@ class RedisJournal:
         self._redis = redis.Redis(address.hostname or "127.0.0.1", address.port or 6379, socket_timeout=TRY, socket_connect_timeout=TRY)
 
     def _ask(self, *words: Any) -> Any:
+        return self._all(words)[0]
+
+    def _all(self, *asked: tuple[Any, ...]) -> Any:
+        """What Redis replies to these commands, by one connection: a WAIT is for what came by its own one."""
         try:
-            return self._redis.execute_command(*words)
+            with self._redis.pipeline(transaction=False) as link:
+                [link.execute_command(*it) for it in asked]
+                return link.execute()
         except (redis.ConnectionError, redis.TimeoutError) as why:
             raise Away(f"Redis: {why}") from None
         except redis.RedisError as why:
@@ -48,9 +54,11 @@ class RedisJournal:
         return leads
 
     def append(self, number: int, data: bytes) -> None:
-        if not self._ask("EVAL", APPEND, 2, self.name + ":leader", self.name, self._nonce, f"{number}-0", data):
+        append = ("EVAL", APPEND, 2, self.name + ":leader", self.name, self._nonce, f"{number}-0", data)
+        is_there, *have = self._all(append, *[("WAIT", self._replicas, int(TRY * 500))] * (self._replicas > 0))
+        if not is_there:
             raise Fenced(f"Redis: another primary leads, after batch {number - 1}")
-        if self._replicas and self._ask("WAIT", self._replicas, int(TRY * 500)) < self._replicas:
+        if have and have[0] < self._replicas:
             raise Away("Redis: too few replicas have the batch")
 
     def check(self) -> None:

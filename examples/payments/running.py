@@ -24,7 +24,10 @@ def listen_at(path: pathlib.Path) -> socket.socket:
         path.unlink()
     listener = socket.socket(socket.AF_UNIX)
     os.fchmod(listener.fileno(), 0o600)  # of the file, once there is one
-    listener.bind(str(path))
+    try:
+        listener.bind(str(path))
+    except OSError as why:  # which does not name the path
+        raise Unusable(f"{path}: no socket can be made here: {(why.strerror or str(why)).lower()}") from None
     listener.listen()
     return listener
 
