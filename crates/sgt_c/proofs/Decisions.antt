@@ -47,6 +47,9 @@ plan_said entries is_busy now before after p q planned woken wakes from to noted
       cut = t.cut;
       pause = t.pause;
       paused = t.paused;
+      at = t.at;
+      cut_next = t.cut_next;
+      nothing = t.nothing;
       put_off = λ until due busy is late. let r = t.put_off until due busy is late in (r.0, noted r.1);
       not_due = t.not_due;
       same = t.same;

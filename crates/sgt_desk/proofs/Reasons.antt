@@ -15,5 +15,6 @@ why_now d before attempt short (Some (Turn t u)) (inl e) = absurd (cc e)
 why_now d before attempt short (Some (Full n)) (inl e) = absurd (cc e)
 why_now d before attempt short (Some (End n)) (inl e) = absurd (cc e)
 why_now d before attempt short (Some (Busy n)) e = absurd (cc e)
-why_now d before attempt short (Some Cut) w = w
+why_now d before attempt short (Some Cut) (inr w) = inr w
+why_now d before attempt short (Some Cut) (inl e) = absurd (cc e)
 why_now d before attempt short None w = w

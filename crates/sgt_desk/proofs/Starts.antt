@@ -32,7 +32,7 @@ module _ (limits : Limits) (begun living : ℕ) where
   taken_full None args e = absurd cc
   taken_full (Some count) args e = fit_full (args_fit count args) e
 
-full_is : (r : Reply) → short_reply r ≡ bare.Full → r ≡ reply.Full
+pub full_is : (r : Reply) → short_reply r ≡ bare.Full → r ≡ reply.Full
 full_is reply.Full e = refl
 full_is (reply.Started t) e = absurd cc
 full_is reply.NoProcedure e = absurd cc

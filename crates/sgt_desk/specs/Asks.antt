@@ -1,9 +1,11 @@
 -- What a call keeps from turn to turn, and when it may rest.
-use Rattle.std.specs.Prelude.{◌≡◌, ◌⊎◌, ℕ, Bool, true, false, not, ◌&&◌, nat_eq, nat_le, Option, Some, None}
+use Rattle.std.specs.Prelude.{◌≡◌, ◌⊎◌, ℕ, Bool, true, false, not, ◌&&◌, nat_eq, nat_le, List, [], ◌∷◌, Option, Some, None}
+use Rattle.sgt_model.specs.declared.entry.Entry.{Entry}
 use Rattle.sgt_model.specs.declared.event.Event.{Event}
 use Rattle.sgt_model.specs.declared.event.Event.TheVariants as event
 use Rattle.sgt_model.specs.declared.short_reply.ShortReply.{ShortReply}
 use Rattle.sgt_model.specs.declared.short_reply.ShortReply.TheVariants as bare
+use Rattle.sgt_model.specs.ShortReplies.{short_reply}
 use Rattle.sgt_desk.specs.declared.ask.Ask.{Ask}
 use Rattle.sgt_desk.specs.declared.ask.Deadline.{Deadline}
 use Rattle.sgt_desk.specs.declared.ask.Deadline.TheVariants.{Never, AtOnce, At}
@@ -37,6 +39,11 @@ holds_up a d = not (is_of_cut a.reason) && is_held a.reason d
 pub record Rests (a : Ask) (now : ℕ) (d : DeskState) : Type 0 where
   pub held : is_held a.reason d ≡ true
   pub in_time : has_come a.deadline now ≡ false
+
+-- the call would have to rest, for a reason that holds, but its deadline has come
+pub record IsLate (deadline : Deadline) (now : ℕ) (reason : Option Reason) (d : DeskState) : Type 0 where
+  pub over : has_come deadline now ≡ true
+  pub held : is_held reason d ≡ true
 
 -- the reason is that of a cut in another part of the history
 abbrev pub saw_cut : Option Reason → ℕ → Bool
@@ -82,14 +89,20 @@ StartsWhy d before (Some (Busy n)) = before ≡ Some (Busy n)
 StartsWhy d before (Some Cut) = Unit {0}
 StartsWhy d before None = Unit {0}
 
--- why a commit may rest: as before, or since its newest reply says for whom it waits
-abbrev pub CommitsWhy : ℕ → Option Reason → ShortReply → Option Reason → Type 0
-CommitsWhy t before short (Some (Turn u v)) = (before ≡ Some (Turn u v)) ⊎ ((u ≡ t) × (short ≡ bare.Waits v))
-CommitsWhy t before short (Some (Full n)) = before ≡ Some (Full n)
-CommitsWhy t before short (Some (End n)) = before ≡ Some (End n)
-CommitsWhy t before short (Some (Busy n)) = before ≡ Some (Busy n)
-CommitsWhy t before short (Some Cut) = before ≡ Some Cut
-CommitsWhy t before short None = Unit {0}
+-- the newest entry is this event, and its reply without its lists is this
+abbrev pub IsNewest : Event → ShortReply → List Entry → Type 0
+IsNewest event short [] = ⊥
+IsNewest event short (e ∷ past) = (e.event ≡ event) × (short_reply e.reply ≡ short)
+
+-- why a commit may rest: as before, or since it was just told for whom it waits
+abbrev pub CommitsWhy : ℕ → List Entry → Option Reason → ShortReply → Option Reason → Type 0
+CommitsWhy t past before short (Some (Turn u v)) =
+    (before ≡ Some (Turn u v)) ⊎ ((u ≡ t) × (short ≡ bare.Waits v) × IsNewest (event.Commit t) (bare.Waits v) past)
+CommitsWhy t past before short (Some (Full n)) = before ≡ Some (Full n)
+CommitsWhy t past before short (Some (End n)) = before ≡ Some (End n)
+CommitsWhy t past before short (Some (Busy n)) = before ≡ Some (Busy n)
+CommitsWhy t past before short (Some Cut) = before ≡ Some Cut
+CommitsWhy t past before short None = Unit {0}
 
 -- the event that asks this of a transaction
 abbrev pub event_of : Asked → ℕ → Event

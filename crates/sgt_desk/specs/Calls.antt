@@ -1,5 +1,5 @@
 -- What a turn of each call does.
-use Rattle.std.specs.Prelude.{◌≡◌, ◌≢◌, ◌⊎◌, ◌↔◌, ℕ, ℤ, ◌≤◌, ◌<◌, true, false, cond, is_some, List, Result, Ok, Some, None}
+use Rattle.std.specs.Prelude.{◌≡◌, ◌≢◌, ◌⊎◌, ◌↔◌, ℕ, ℤ, ◌≤◌, ◌<◌, true, false, cond, is_some, List, length, Result, Ok, Some, None}
 use Rattle.sgt_model.specs.declared.errors.NoMemory.{NoMemory}
 use Rattle.sgt_model.specs.declared.event.Event.TheVariants.{Start, Commit}
 use Rattle.sgt_model.specs.declared.short_reply.ShortReply.{ShortReply}
@@ -11,9 +11,9 @@ use Rattle.sgt_desk.specs.declared.ask.Turn.TheVariants.{Done, Rest, Late, Again
 use Rattle.sgt_desk.specs.declared.making.Asked.{Asked}
 use Rattle.sgt_desk.specs.declared.reason.Reason.TheVariants.{Busy}
 use Rattle.sgt_desk.specs.declared.running.Run.{Run}
-use Rattle.sgt_desk.specs.Asks.{CommitsWhy, IsNotFull, IsNoWait, Rests, SawCut, StartsWhy, event_of, has_come}
+use Rattle.sgt_desk.specs.Asks.{CommitsWhy, IsLate, IsNotFull, IsNoWait, Rests, SawCut, StartsWhy, event_of, has_come}
 use Rattle.sgt_desk.specs.Desks.{DeskState, Adds, AddsEntry, IsCutOff, MayAdd, MayAddEntry, SameHistory, StaysLive, is_busy, with_call, without_call}
-use Rattle.sgt_desk.specs.Runs.{RequestsOnly, Begins, IsOutcome, LeavesOnly, RunsWhy, is_conflict, is_over, named}
+use Rattle.sgt_desk.specs.Runs.{RequestsOnly, Begins, GoesOn, GrowsBy, IsOutcome, LateWhy, LeavesOnly, OverMeanwhile, RunsWhy, gives_up, is_conflict, is_over, named}
 
 -- a turn of a start
 pub record StartTurn (procedure : ℕ) (args : List ℤ) (now : ℕ) (before : DeskState) (ask : Ask) (after : DeskState) (next : Ask)
@@ -23,7 +23,8 @@ pub record StartTurn (procedure : ℕ) (args : List ℤ) (now : ℕ) (before : D
   pub rests : turn ≡ Ok Rest → Rests next now after
   pub why : StartsWhy before ask.reason next.reason
   pub cut : 0 < before.cutters → after ≡ before
-  pub late : turn ≡ Ok Late → has_come ask.deadline now ≡ true
+  pub late : turn ≡ Ok Late → IsLate ask.deadline now next.reason after
+  pub nothing : turn ≢ Ok Done → start_count after.past ≡ start_count before.past
   pub turns : (turn ≢ Ok Again) × (turn ≢ Ok Stale)
   pub entries : MayAdd (Start procedure args) before next.reply after
   pub deadline : next.deadline ≡ ask.deadline
@@ -37,8 +38,8 @@ pub record CommitTurn (ticket : Ticket) (now : ℕ) (before : DeskState) (ask : 
   pub counted : turn ≡ Ok Rest → (next.is_counted ≡ true) × (after.committing ≡ with_call ask.is_counted before.committing)
   pub uncounted : turn ≢ Ok Rest → (next.is_counted ≡ false) × (after.committing ≡ without_call ask.is_counted before.committing)
   pub cutters : after.cutters ≡ before.cutters
-  pub why : CommitsWhy ticket.tid ask.reason next.reply next.reason
-  pub late : turn ≡ Ok Late → has_come ask.deadline now ≡ true
+  pub why : CommitsWhy ticket.tid after.past ask.reason next.reply next.reason
+  pub late : turn ≡ Ok Late → IsLate ask.deadline now next.reason after
   pub live : turn ≢ Ok Done → StaysLive before after
   pub again : turn ≢ Ok Again
   pub stale : (turn ≡ Ok Stale) ↔ (ticket.part ≢ before.part)
@@ -50,6 +51,12 @@ pub record CommitTurn (ticket : Ticket) (now : ℕ) (before : DeskState) (ask : 
 pub record RunTurn (procedure : ℕ) (args : List ℤ) (now : ℕ) (before : DeskState) (run : Run) (after : DeskState) (next : Run)
     (turn : Result Turn NoMemory) : Type 0 where
   pub outcome : turn ≡ Ok Done → IsOutcome next.ask.reply (named next.ticket) after.past
+  pub retried : turn ≡ Ok Again → IsOutcome next.ask.reply (named next.ticket) after.past
+  pub not_full : turn ≡ Ok Done → IsNotFull next.ask.reply
+  pub meanwhile : gives_up turn ≡ false → turn ≢ Ok Rest → OverMeanwhile run.attempt before.past next.ask.reply
+  pub grows : GoesOn before run → GrowsBy (gives_up turn) procedure args run.attempt (named next.ticket) before.past after.past
+  pub grown : gives_up turn ≡ false → turn ≢ Ok Rest → length before.past < length after.past
+  pub goes_on : GoesOn before run → GoesOn after next
   pub done : turn ≡ Ok Done → is_conflict next.ask.reply ≡ true → next.most ≤ next.tries
   pub call : Begins procedure args before run after next
   pub others : RequestsOnly (named next.ticket) before.past after.past
@@ -67,6 +74,7 @@ pub record RunTurn (procedure : ℕ) (args : List ℤ) (now : ℕ) (before : Des
       (without_call run.ask.is_counted before.committing)
   pub cutters : after.cutters ≡ before.cutters
   pub late : turn ≡ Ok Late → has_come run.ask.deadline now ≡ true
+  pub late_why : GoesOn before run → turn ≡ Ok Late → LateWhy now run after next
   pub stale : turn ≢ Ok Stale
   pub most : next.most ≡ run.most
   pub deadline : next.ask.deadline ≡ run.ask.deadline
@@ -79,7 +87,7 @@ pub record CutTurn (now : ℕ) (before : DeskState) (ask : Ask) (after : DeskSta
   pub counted : turn ≡ Ok Rest → (next.is_counted ≡ true) × (after.cutters ≡ with_call ask.is_counted before.cutters)
   pub uncounted : turn ≢ Ok Rest → (next.is_counted ≡ false) × (after.cutters ≡ without_call ask.is_counted before.cutters)
   pub committing : after.committing ≡ before.committing
-  pub late : turn ≡ Ok Late → has_come ask.deadline now ≡ true
+  pub late : turn ≡ Ok Late → (has_come ask.deadline now ≡ true) × (is_busy before ≡ true)
   pub turns : (turn ≢ Ok Again) × (turn ≢ Ok Stale)
   pub unchanged : turn ≢ Ok Done → SameHistory before after
   pub busy : is_busy before ≡ true → SameHistory before after

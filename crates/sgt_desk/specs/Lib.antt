@@ -5,4 +5,5 @@ pub mod Runs
 pub mod Attempts
 pub mod Calls
 pub mod Turns
+pub mod Endings
 pub mod Plans

@@ -2,7 +2,7 @@
 use Rattle.std.specs.Prelude.{◌≡◌, ◌⊎◌, ◌↔◌, ℕ, ◌+◌, ◌≤◌, ◌<◌, Bool, true, false, not, ◌&&◌, ◌||◌, nat_le, nat_lt, min, Some, None}
 use Rattle.sgt_desk.specs.declared.plan.Plan.{Plan}
 use Rattle.sgt_desk.specs.declared.plan.Planned.{Planned}
-use Rattle.sgt_desk.specs.declared.plan.Planned.TheVariants.{Cut, Pause}
+use Rattle.sgt_desk.specs.declared.plan.Planned.TheVariants.{Nothing, Cut, Pause}
 use Rattle.sgt_desk.specs.declared.alone.Solo.{Solo}
 
 -- ---- cuts
@@ -27,11 +27,18 @@ IsPutOff entries before after = (after.at ≡ sum entries before.after) × (afte
 abbrev pub SamePlan : Plan → Plan → Type 0
 SamePlan before after = (after.after ≡ before.after) × (after.patience ≡ before.patience)
 
+-- starts have waited for a cut as long as the plan says
+abbrev pub HasWaited : Plan → ℕ → Type 0
+HasWaited p now = (until : ℕ) × (p.pause ≡ Some until) × (until ≤ now)
+
 -- what a plan asks for next, and what it is then
 pub record PlanTurn (entries : ℕ) (is_busy : Bool) (now : ℕ) (before : Plan) (planned : Planned) (after : Plan) (wakes : Bool) : Type 0 where
   pub cut : (planned ≡ Cut) ↔ ((is_due before entries ≡ true) × (is_busy ≡ false))
   pub pause : (until : ℕ) → (planned ≡ Pause until) ↔ ((is_due before entries ≡ true) × (is_busy ≡ true) × CanRest before now until)
   pub paused : (until : ℕ) → planned ≡ Pause until → after.pause ≡ Some until
+  pub at : (after.at ≡ before.at) ⊎ HasWaited before now
+  pub cut_next : planned ≡ Cut → after ≡ before
+  pub nothing : planned ≡ Nothing → before.pause ≡ None → after ≡ before
   pub put_off : (until : ℕ) → is_due before entries ≡ true → is_busy ≡ true → before.pause ≡ Some until → until ≤ now
       → IsPutOff entries before after × (wakes ≡ true)
   pub not_due : is_due before entries ≡ false → after ≡ before

@@ -1,7 +1,8 @@
 //! Turns of a commit.
 ghost use Rattle.std.specs.Prelude.{◌≡◌, ◌≢◌, true, false, Ok};
 ghost use Rattle.sgt_model.specs.declared.event.Event.TheVariants.{Commit};
-ghost use Rattle.sgt_desk.specs.Asks.{has_come, is_of_cut, CommitsWhy, IsNoWait, Rests};
+ghost use Rattle.sgt_desk.specs.Asks.{is_of_cut, CommitsWhy, IsLate, IsNoWait, Rests};
+ghost use Rattle.sgt_desk.specs.Attempts.{ActsFor, CommitsAttempt, StaysLegal};
 ghost use Rattle.sgt_desk.specs.Calls.{CommitTurn};
 ghost use Rattle.sgt_desk.specs.Desks.{state, Adds, MayAdd, StaysLive, Wakes};
 
@@ -24,13 +25,17 @@ pub fn commit_turn<E: Answering>(
     ensures no_wait { result ≡ Ok Turn.Done → IsNoWait ask.new.reply }
     ensures rests { result ≡ Ok Turn.Rest → Rests ask.new now (state E.state desk.new) }
     ensures no_cut { result ≡ Ok Turn.Rest → is_of_cut ask.new.reason ≡ false }
-    ensures why { CommitsWhy t ask.old.reason ask.new.reply ask.new.reason }
-    ensures late { result ≡ Ok Turn.Late → has_come ask.old.deadline now ≡ true }
+    ensures late_no_cut { result ≡ Ok Turn.Late → is_of_cut ask.new.reason ≡ false }
+    ensures why { CommitsWhy t (state E.state desk.new).past ask.old.reason ask.new.reply ask.new.reason }
+    ensures late { result ≡ Ok Turn.Late → IsLate ask.old.deadline now ask.new.reason (state E.state desk.new) }
     ensures live { result ≢ Ok Turn.Done → StaysLive (state E.state desk.old) (state E.state desk.new) }
     ensures again { (result ≢ Ok Turn.Again) × (result ≢ Ok Turn.Stale) }
     ensures entries { MayAdd (Commit t) (state E.state desk.old) ask.new.reply (state E.state desk.new) }
     ensures deadline { ask.new.deadline ≡ ask.old.deadline }
     ensures counted { ask.new.is_counted ≡ ask.old.is_counted }
+    ensures legal { StaysLegal (state E.state desk.old) (state E.state desk.new) }
+    ensures acts { ActsFor t (state E.state desk.old) (state E.state desk.new) }
+    ensures commits { CommitsAttempt t (state E.state desk.old) ask.old (state E.state desk.new) ask.new result }
     ensures wakes { Wakes (state E.state desk.old) (state E.state desk.new) wakes.new }
     ensures woken { wakes.old ≡ true → wakes.new ≡ true }
 {

@@ -25,7 +25,7 @@ pub fn cut_turn<E: Answering>(
         ⊎ (SawCut ask.old (state E.state desk.old) × SameHistory (state E.state desk.old) (state E.state desk.new)) }
     ensures rests { result ≡ Ok Turn.Rest → Rests ask.new now (state E.state desk.new) }
     ensures why { result ≡ Ok Turn.Rest → ask.new.reason ≡ Some (Busy (state E.state desk.new).part) }
-    ensures late { result ≡ Ok Turn.Late → has_come ask.old.deadline now ≡ true }
+    ensures late { result ≡ Ok Turn.Late → (has_come ask.old.deadline now ≡ true) × (is_busy (state E.state desk.old) ≡ true) }
     ensures turns { (result ≢ Ok Turn.Again) × (result ≢ Ok Turn.Stale) }
     ensures unchanged { result ≢ Ok Turn.Done → SameHistory (state E.state desk.old) (state E.state desk.new) }
     ensures busy { is_busy (state E.state desk.old) ≡ true → SameHistory (state E.state desk.old) (state E.state desk.new) }

@@ -66,7 +66,7 @@ pub use committing::{commit, commit_turn};
 pub use cutting::{cut, cut_turn};
 pub use desk::Desk;
 pub use handing_on::Feed;
-pub use laws::no_wake_is_lost;
+pub use laws::{no_wake_is_lost, runs_end};
 pub use making::{Asked, make};
 pub use plan::{Plan, Planned};
 pub use reason::Reason;

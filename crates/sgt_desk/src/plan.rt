@@ -62,6 +62,8 @@ impl Plan {
         ensures pause { (until : _) → (result ≡ Planned.Pause until) ↔ CanRest self.old now until }
         ensures paused { (until : _) → result ≡ Planned.Pause until → self.new.pause ≡ Some until }
         ensures cut { result ≢ Planned.Cut }
+        ensures at { self.new.at ≡ self.old.at }
+        ensures nothing { result ≡ Planned.Nothing → self.new ≡ self.old }
         ensures same { SamePlan self.old self.new }
     {
         if self.patience == 0 {

@@ -1,18 +1,35 @@
 //! Turns of a run: a procedure from its start to its commit, tried again after a conflict.
-ghost use Rattle.std.specs.Prelude.{◌≡◌, ◌<◌, true, false, Ok, Some, None, IfOk};
+ghost use Rattle.std.specs.Prelude.{◌≡◌, ◌≢◌, ◌<◌, true, false, length, Ok, Some, None, IfOk};
 ghost use Rattle.sgt_model.specs.Fates.{live, start_count};
 ghost use Rattle.sgt_model.specs.declared.event.Event.TheVariants.{Start};
-ghost use Rattle.sgt_desk.specs.Asks.{SameButReply};
+ghost use Rattle.sgt_desk.specs.Asks.{IsLate, IsNotFull, SameButReply};
 ghost use Rattle.sgt_desk.specs.Calls.{RunTurn};
 ghost use Rattle.sgt_desk.specs.Desks.{state, SameCounts, Wakes};
-ghost use Rattle.sgt_desk.specs.Attempts.{ActsFor, TurnsAttempt};
-ghost use Rattle.sgt_desk.specs.Runs.{is_conflict, is_over, named, RequestsOnly, Begins, IsOutcome, LeavesOnly, RunsWhy};
+ghost use Rattle.sgt_desk.specs.Attempts.{ActsFor, EndsAttempt, GoneOn, MayCommit, QuitsIfLive, StaysLegal, StepsOn, TurnsAttempt};
+ghost use Rattle.sgt_desk.specs.Runs.{
+  gives_up,
+  is_conflict,
+  is_over,
+  named,
+  RequestsOnly,
+  Begins,
+  GoesOn,
+  Grows,
+  GrowsBy,
+  IsOutcome,
+  LateWhy,
+  LeavesOnly,
+  OverMeanwhile,
+  RestsFor,
+  RunsWhy,
+};
 
 use crate::answering::Answering;
 use crate::ask::{Ask, Deadline, Ticket, Turn};
 use crate::committing::commit_turn;
 use crate::desk::Desk;
 use crate::reason::Reason;
+use crate::starting::ask_start;
 use sgt_model::{
     Args, Event, NoMemory, ShortCause, ShortFate, ShortReply, Tid, replies_report_who_is_live,
 };
@@ -78,6 +95,8 @@ fn end<E: Answering>(desk: &mut Desk<E>, ask: &mut Ask, t: Tid, wakes: &mut bool
     ensures outcome { IsOutcome ask.old.reply (Some t) (state E.state desk.old).past
         → IsOutcome ask.new.reply (Some t) (state E.state desk.new).past }
     ensures acts { ActsFor t (state E.state desk.old) (state E.state desk.new) }
+    ensures quits { QuitsIfLive t (state E.state desk.old) ask.old (state E.state desk.new) ask.new }
+    ensures legal { StaysLegal (state E.state desk.old) (state E.state desk.new) }
     ensures wakes { Wakes (state E.state desk.old) (state E.state desk.new) wakes.new }
     ensures woken { wakes.old ≡ true → wakes.new ≡ true }
 {
@@ -100,6 +119,9 @@ fn step_on<E: Answering>(
 ) -> Result<ShortReply, NoMemory>
     ensures outcome { IfOk result (λ r. IsOutcome r (Some t) (state E.state desk.new).past) }
     ensures acts { ActsFor t (state E.state desk.old) (state E.state desk.new) }
+    ensures grows { Grows false t (state E.state desk.old).past (state E.state desk.new).past }
+    ensures steps { IfOk result (StepsOn t (state E.state desk.old) (state E.state desk.new)) }
+    ensures legal { StaysLegal (state E.state desk.old) (state E.state desk.new) }
     ensures wakes { Wakes (state E.state desk.old) (state E.state desk.new) wakes.new }
     ensures woken { wakes.old ≡ true → wakes.new ≡ true }
 {
@@ -132,6 +154,11 @@ fn end_attempt<E: Answering>(
     ensures kept { (run.new.tries ≡ run.old.tries) × (run.new.ticket ≡ run.old.ticket) }
     ensures turn { TurnsAttempt now run.old (state E.state desk.new) run.new (Ok result) }
     ensures why { RunsWhy (state E.state desk.new) None run.new.attempt run.new.ask.reply run.new.ask.reason }
+    ensures quits { QuitsIfLive t (state E.state desk.old) run.old.ask (state E.state desk.new) run.new.ask }
+    ensures rests { RestsFor (state E.state desk.new) None run.new.ask.reason }
+    ensures late { result ≡ Turn.Late → (is_conflict run.new.ask.reply ≡ true)
+        × IsLate run.old.ask.deadline now run.new.ask.reason (state E.state desk.new) }
+    ensures legal { StaysLegal (state E.state desk.old) (state E.state desk.new) }
     ensures wakes { Wakes (state E.state desk.old) (state E.state desk.new) wakes.new }
     ensures woken { wakes.old ≡ true → wakes.new ≡ true }
 {
@@ -169,6 +196,13 @@ fn commit_attempt<E: Answering>(
     ensures kept { (run.new.tries ≡ run.old.tries) × (run.new.ticket ≡ run.old.ticket) }
     ensures turn { TurnsAttempt now run.old (state E.state desk.new) run.new result }
     ensures why { RunsWhy (state E.state desk.new) run.old.ask.reason run.new.attempt run.new.ask.reply run.new.ask.reason }
+    ensures retried { result ≡ Ok Turn.Again → IsOutcome run.new.ask.reply (Some t) (state E.state desk.new).past }
+    ensures grown { gives_up result ≡ false → result ≢ Ok Turn.Rest
+        → length (state E.state desk.old).past < length (state E.state desk.new).past }
+    ensures ends { EndsAttempt t (state E.state desk.old) run.new.ask.reply result }
+    ensures gone_on { MayCommit (state E.state desk.old) t run.old.ask.reason
+        → GoneOn now t (state E.state desk.old) run.old (state E.state desk.new) run.new result }
+    ensures legal { StaysLegal (state E.state desk.old) (state E.state desk.new) }
     ensures wakes { Wakes (state E.state desk.old) (state E.state desk.new) wakes.new }
     ensures woken { wakes.old ≡ true → wakes.new ≡ true }
 {
@@ -200,6 +234,16 @@ fn try_once<E: Answering>(
 ) -> Result<Turn, NoMemory>
     requires none { run.old.attempt ≡ None }
     ensures outcome { result ≡ Ok Turn.Done → IsOutcome run.new.ask.reply (named run.new.ticket) (state E.state desk.new).past }
+    ensures retried { result ≡ Ok Turn.Again → IsOutcome run.new.ask.reply (named run.new.ticket) (state E.state desk.new).past }
+    ensures full { result ≡ Ok Turn.Done → IsNotFull run.new.ask.reply }
+    ensures meanwhile { gives_up result ≡ false → result ≢ Ok Turn.Rest
+        → OverMeanwhile None (state E.state desk.old).past run.new.ask.reply }
+    ensures grows { GoesOn (state E.state desk.old) run.old → GrowsBy (gives_up result) procedure args.now None (named run.new.ticket)
+        (state E.state desk.old).past (state E.state desk.new).past }
+    ensures grown { gives_up result ≡ false → result ≢ Ok Turn.Rest
+        → length (state E.state desk.old).past < length (state E.state desk.new).past }
+    ensures goes_on { GoesOn (state E.state desk.old) run.old → GoesOn (state E.state desk.new) run.new }
+    ensures late_why { GoesOn (state E.state desk.old) run.old → result ≡ Ok Turn.Late → LateWhy now run.old (state E.state desk.new) run.new }
     ensures left { LeavesOnly None (start_count (state E.state desk.old).past) (state E.state desk.new).past run.new.attempt }
     ensures call { Begins procedure args.now (state E.state desk.old) run.old (state E.state desk.new) run.new }
     ensures others { RequestsOnly (named run.new.ticket) (state E.state desk.old).past (state E.state desk.new).past }
@@ -225,11 +269,7 @@ fn try_once<E: Answering>(
     }
     run.ask.reason = None;
     let mut reply = ShortReply::Unknown;
-    let event = Event::Start {
-        procedure,
-        args: args.copied(),
-    };
-    desk.answer(&event, &mut reply, wakes)?;
+    ask_start(desk, procedure, args, &mut reply, wakes)?;
     run.ask.reply = reply;
     match reply {
         ShortReply::Started(t) => {
@@ -261,6 +301,11 @@ fn attempt<E: Answering>(
     ensures kept { (run.new.tries ≡ run.old.tries) × (run.new.ticket ≡ run.old.ticket) }
     ensures turn { TurnsAttempt now run.old (state E.state desk.new) run.new result }
     ensures why { RunsWhy (state E.state desk.new) run.old.ask.reason run.new.attempt run.new.ask.reply run.new.ask.reason }
+    ensures retried { result ≡ Ok Turn.Again → IsOutcome run.new.ask.reply (Some t) (state E.state desk.new).past }
+    ensures ends { EndsAttempt t (state E.state desk.old) run.new.ask.reply result }
+    ensures gone_on { run.old.ask.reason ≡ None
+        → GoneOn now t (state E.state desk.old) run.old (state E.state desk.new) run.new result }
+    ensures legal { StaysLegal (state E.state desk.old) (state E.state desk.new) }
     ensures wakes { Wakes (state E.state desk.old) (state E.state desk.new) wakes.new }
     ensures woken { wakes.old ≡ true → wakes.new ≡ true }
 {
@@ -318,6 +363,16 @@ fn run_turn<E: Answering>(
     wakes: &mut bool,
 ) -> Result<Turn, NoMemory>
     ensures outcome { result ≡ Ok Turn.Done → IsOutcome run.new.ask.reply (named run.new.ticket) (state E.state desk.new).past }
+    ensures retried { result ≡ Ok Turn.Again → IsOutcome run.new.ask.reply (named run.new.ticket) (state E.state desk.new).past }
+    ensures full { result ≡ Ok Turn.Done → IsNotFull run.new.ask.reply }
+    ensures meanwhile { gives_up result ≡ false → result ≢ Ok Turn.Rest
+        → OverMeanwhile run.old.attempt (state E.state desk.old).past run.new.ask.reply }
+    ensures grows { GoesOn (state E.state desk.old) run.old → GrowsBy (gives_up result) procedure args.now run.old.attempt
+        (named run.new.ticket) (state E.state desk.old).past (state E.state desk.new).past }
+    ensures grown { gives_up result ≡ false → result ≢ Ok Turn.Rest
+        → length (state E.state desk.old).past < length (state E.state desk.new).past }
+    ensures goes_on { GoesOn (state E.state desk.old) run.old → GoesOn (state E.state desk.new) run.new }
+    ensures late_why { GoesOn (state E.state desk.old) run.old → result ≡ Ok Turn.Late → LateWhy now run.old (state E.state desk.new) run.new }
     ensures turn { TurnsAttempt now run.old (state E.state desk.new) run.new result }
     ensures call { Begins procedure args.now (state E.state desk.old) run.old (state E.state desk.new) run.new }
     ensures others { RequestsOnly (named run.new.ticket) (state E.state desk.old).past (state E.state desk.new).past }

@@ -1,5 +1,7 @@
 //! Turns of a start.
-ghost use Rattle.std.specs.Prelude.{◌≡◌, true};
+ghost use Rattle.std.specs.Prelude.{◌≡◌, true, OnOk, OnErr};
+ghost use Rattle.sgt_model.specs.Legality.{Legal};
+ghost use Rattle.sgt_desk.specs.Attempts.{AsksStart};
 ghost use Rattle.sgt_desk.specs.Calls.{StartTurn};
 ghost use Rattle.sgt_desk.specs.Desks.{state, Wakes};
 
@@ -32,11 +34,7 @@ pub fn start<E: Answering>(
         return Ok(ask.turn(now));
     }
     let mut reply = ShortReply::Unknown;
-    let event = Event::Start {
-        procedure,
-        args: args.copied(),
-    };
-    desk.answer(&event, &mut reply, wakes)?;
+    ask_start(desk, procedure, args, &mut reply, wakes)?;
     ask.reply = reply;
     match reply {
         ShortReply::Full => {
@@ -48,4 +46,29 @@ pub fn start<E: Answering>(
             Ok(Turn::Done)
         }
     }
+}
+
+/// Asks for the start of a transaction.
+///
+/// `NoMemory` if an allocation failed; then nothing has changed.
+#[inline(always)]
+pub(crate) fn ask_start<E: Answering>(
+    desk: &mut Desk<E>,
+    procedure: u16,
+    args: &Args,
+    reply: &mut ShortReply,
+    wakes: &mut bool,
+) -> Result<(), NoMemory>
+    ensures asks { OnOk result (AsksStart procedure args.now (state E.state desk.old) reply.new (state E.state desk.new)) }
+    ensures unchanged { OnErr result (state E.state desk.new ≡ state E.state desk.old) }
+    ensures legal { Legal (state E.state desk.new).configuration (state E.state desk.new).past }
+    ensures wakes { Wakes (state E.state desk.old) (state E.state desk.new) wakes.new }
+    ensures woken { wakes.old ≡ true → wakes.new ≡ true }
+{
+    let event = Event::Start {
+        procedure,
+        args: args.copied(),
+    };
+    desk.answer(&event, reply, wakes)?;
+    Ok(())
 }

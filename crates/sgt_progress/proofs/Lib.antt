@@ -12,4 +12,5 @@ pub mod Owners
 pub mod Examples
 pub mod Checked
 pub mod Predecessors
+pub mod Waits
 pub mod Progress

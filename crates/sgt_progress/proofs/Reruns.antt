@@ -20,32 +20,31 @@ use Rattle.sgt_model.specs.declared.limits.Asks.TheVariants.{AtStep, AtCommit}
 use Rattle.sgt_model.specs.Numbers.{IsValue, is_value}
 use Rattle.sgt_model.specs.Contents.{Contents}
 use Rattle.sgt_model.specs.Paths.{Member}
-use Rattle.sgt_model.specs.Runs.{Run, Asked, serial, CallerAccess, reported, wrote, with_access, with_accesses}
+use Rattle.sgt_model.specs.Runs.{Asked, serial, CallerAccess, reported, wrote, with_access, with_accesses}
 use Rattle.sgt_model.specs.Traces.{Next, Looks, Puts, Ends, Raises}
 use Rattle.sgt_model.specs.Accesses.{Access, access_in, access_of, acts}
 use Rattle.sgt_model.specs.Fates.{is_start, start_count, ending_in, started_ones, live, live_ones}
 use Rattle.sgt_model.specs.Values.{visible}
 use Rattle.sgt_model.specs.Configurations.{Configuration}
-use Rattle.sgt_model.specs.Progress.{Call, call_of, caller_access_in, caller_accesses, with_caller_accesses, values_read, requested, is_fit, run_of, outcome_in, next_of}
+use Rattle.sgt_model.specs.Progress.{Call, call_of, caller_access_in, caller_accesses, with_caller_accesses, requested, is_fit, run_of, outcome_in, next_of}
 use Rattle.sgt_model.specs.Admissions.{IsAdmitted, AreAdmitted}
 use Rattle.sgt_model.specs.Aborts.{CauseHolds}
 use Rattle.sgt_model.specs.StartReply.{args_fit, capacity_reply, taken_reply, start_reply}
 use Rattle.sgt_model.specs.Replay.{run_in_turn, reported_call_in, reported_calls}
 use Rattle.sgt_model.specs.Legality.{LegalReply, Legal, OfFit, RequestReply, StepReply, CommitReply, RaisedStep, RaisedCommit}
 use Rattle.sgt_model.specs.Questions.{over_in, is_ending}
-use Rattle.sgt_model.proofs.Acts.{requests_of, caller_access_of}
+use Rattle.sgt_model.proofs.Acts.{caller_access_of}
 use Rattle.sgt_model.proofs.Admissions.{committed_admitted}
 use Rattle.sgt_model.proofs.Conditions.{distinct_fits}
 use Rattle.sgt_model.proofs.Effects.{EndsNone, Fits, ends_none-no_call, ends_none-no_end, Effect, idle, begins, accesses, commits, undoes, refuses, effect}
 use Rattle.sgt_model.proofs.Facts.{live-started, live-before, call-kept}
 use Rattle.sgt_model.proofs.Listed.{member_kept}
 use Rattle.sgt_model.proofs.OneReply.{replies_are_unique}
-use Rattle.sgt_model.proofs.Plays.{act_own, acts_unstarted, own_end, plays}
+use Rattle.sgt_model.proofs.Plays.{act_own, acts_unstarted, plays}
 use Rattle.sgt_model.proofs.Questions.{over_are_not_live, endings_end_one}
 use Rattle.sgt_model.proofs.Replays.{is_serializable}
 use Rattle.sgt_model.proofs.Capacity.{limits_are_kept}
 use Rattle.sgt_model.proofs.SomeReply.{some_reply_is_legal, begun_has}
-use Rattle.sgt_model.proofs.Traces.{past_end}
 use Rattle.sgt_progress.specs.Alone.{NoneLive, IsAlone, IsStepOrCommitOf, IsNoQuitOf, is_hindered}
 use Rattle.sgt_progress.specs.Drains.{accesses_left}
 use Rattle.sgt_progress.specs.GivenCalls.{request_of}
@@ -58,6 +57,7 @@ use Rattle.sgt_progress.proofs.InTurn.{IsDone, done_before, fits_then, raises_no
 use Rattle.sgt_progress.proofs.Moves.{of_live, to_live}
 use Rattle.sgt_progress.proofs.RealTime.{reported-started, once, calls}
 use Rattle.sgt_progress.proofs.RunAlone.{none_after_end}
+use Rattle.sgt_progress.proofs.Waits.{end_goes_on}
 
 pub calls_decide : CallsDecide
 calls_decide s one other legal also same =
@@ -233,13 +233,7 @@ module _ (s : Configuration) (past : List Entry) (t : ℕ) (c : Call) (before : 
   pub end_stays : (answers : List ℤ) → next_of s past t ≡ Ends answers → (a : Access) → access_of asked ≡ Some a → a.by ≡ t
       → next_of s (asked ∷ past) t ≡ Ends answers
   end_stays answers end a is own =
-      let run : Run = run_of s.rules (call_of past t) in
-      let p = plays s past t going.ran.legal in
-      let at_end = own_end run (caller_accesses past t) (acts past t) answers p end in
-      ap₂ (λ (q : Call) (l : List Access). requests_of (run_of s.rules q) (values_read l) (length l))
-      (call-kept s past asked t h (live-started past t going.alone.is_live))
-      (act_own (access_of asked) a t (acts past t) is own ∙ ap (λ l. a ∷ l) p.all_are)
-      ∙ past_end run p.own answers p.as_requested at_end (a ∷ p.more)
+      end_goes_on s past asked (going.ran.legal, h) t (live-started past t going.alone.is_live) answers end a is own
 
 -- the access that was made is the one that goes through in its turn
 pub made_same : (s : Configuration) (past : List Entry) (t : ℕ) (c : Call) (before : List Call) (count : ℕ) (answers : List ℤ)

@@ -9,4 +9,5 @@ pub mod Rounds
 pub mod Owners
 pub mod Checked
 pub mod Predecessors
+pub mod Waits
 pub mod Progress

@@ -11,6 +11,7 @@ ghost use Rattle.sgt_progress.specs.Progress.{HistoriesMakeProgress};
 ghost use Rattle.sgt_progress.specs.RealTime.{ReplayKeepsRealTime};
 ghost use Rattle.sgt_progress.specs.Rounds.{RoundsDrain, RoundsMove};
 ghost use Rattle.sgt_progress.specs.Reruns.{CallsDecide, OneByOneIsForced, RerunsAgree};
+ghost use Rattle.sgt_progress.specs.Waits.{EndsAreReady, WaitsStayReady};
 
 /// The next event of a live transaction moves it on, or waits for a live predecessor. An access on which its caller decided
 /// never waits.
@@ -96,6 +97,13 @@ pub fn owners_go_on()
 /// Once a procedure has ended, and as long as its caller makes no access, its transaction gets no more live predecessors.
 pub fn no_new_predecessors()
     ensures { NoNewPredecessors }
+{}
+
+/// A procedure that is at its end stays there: a commit that was told to wait, and the first one after a step that was answered
+/// `Ended`, is never answered `NotEnded`.
+pub fn waits_stay_ready()
+    ensures waits { WaitsStayReady }
+    ensures ends { EndsAreReady }
 {}
 
 /// What an engine's contracts say of its history: no deadlock, it drains, and the only live transaction ends by itself.

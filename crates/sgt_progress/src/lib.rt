@@ -34,4 +34,5 @@ pub use laws::{
     alone_ends, alone_ends_by_itself, alone_is_not_aborted, closed_cycles_stay, histories_drain,
     histories_make_progress, moves_are_few, next_moves_or_waits, no_deadlock, no_new_predecessors,
     owners_go_on, replay_keeps_real_time, reruns_agree, rounds_drain, started_alone,
+    waits_stay_ready,
 };

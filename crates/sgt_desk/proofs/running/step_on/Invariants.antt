@@ -1,8 +1,9 @@
-use Rattle.std.specs.Prelude.{◌≡◌, true}
-use Rattle.sgt_model.specs.Fates.{start_count}
+use Rattle.std.specs.Prelude.{◌≡◌, true, false}
+use Rattle.sgt_model.specs.Fates.{live, start_count}
 use Rattle.sgt_model.specs.Questions.{named_by}
 use Rattle.sgt_desk.specs.Desks.{state, SameCounts, Wakes}
-use Rattle.sgt_desk.specs.Runs.{RequestsOnly, KeepsCalls}
+use Rattle.sgt_desk.specs.Attempts.{StaysLegal}
+use Rattle.sgt_desk.specs.Runs.{Grows, RequestsOnly, KeepsCalls}
 use Rattle.sgt_desk.proofs.running.step_on.Given as goal
 
 abbrev pub invariant-loop : goal.invariant-loop
@@ -15,4 +16,7 @@ invariant-loop g l = record {
   counts : SameCounts (state g.E.Answering.state l.initial.desk) (state g.E.Answering.state l.desk);
   wakes : Wakes (state g.E.Answering.state l.initial.desk) (state g.E.Answering.state l.desk) l.wakes;
   woken : l.initial.wakes ≡ true → l.wakes ≡ true;
+  grows : Grows false l.fn.t (g.E.Answering.state l.initial.desk.engine).past (g.E.Answering.state l.desk.engine).past;
+  live_still : live (g.E.Answering.state l.initial.desk.engine).past l.fn.t ≡ true → live (g.E.Answering.state l.desk.engine).past l.fn.t ≡ true;
+  legal : StaysLegal (state g.E.Answering.state l.initial.desk) (state g.E.Answering.state l.desk);
 }

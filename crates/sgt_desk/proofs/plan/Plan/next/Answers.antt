@@ -9,6 +9,9 @@ returns-in-None-clause-turn c = record {
     λ h. (c.begin_pause.ensures.pause until).1 h.2,
   );
   paused = search rules;
+  at = search rules;
+  cut_next = search rules;
+  nothing = search rules;
   put_off = search rules;
   not_due = search rules;
   same = search rules;
