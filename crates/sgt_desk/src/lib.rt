@@ -12,9 +12,10 @@
 //!
 //! Each turn is made under the lock, and so is the beginning of a sleep. If a turn has set `wakes`, all that sleep are woken.
 //!
-//! A call rests only for a [`Reason`] that holds at the end of its turn. A turn in which any reason to rest ceases sets
-//! `wakes`. So however many turns come between, no wake is lost ([`no_wake_is_lost`]), but for what the program does
-//! with its condition.
+//! A call rests only for a [`Reason`] that holds at the end of its turn, and is late only if it would have to rest. A turn in
+//! which any reason to rest ceases sets `wakes`. So however many turns come between, no wake is lost
+//! ([`no_wake_is_lost`]), but for what the program does with its condition. A run ends once whatever it waits for has ended
+//! ([`runs_end`]).
 //!
 //! [`commit`], [`start`] and [`cut`] make the turns of these calls, [`run_procedure`] those of a procedure that is tried again after a
 //! conflict, and [`make`] an event that never rests.
