@@ -43,7 +43,7 @@ PAGES = [
 # Pages of worked programs, which are not among the lines that are counted.
 WORKED = ["examples/clients/README.md", "examples/cookbook/README.md", "examples/payments/README.md", "examples/store/README.md"]
 PAGES += WORKED
-ALL_LINES = 2900
+ALL_LINES = 3000
 LINE = 120
 HELP_LINE = 100
 
