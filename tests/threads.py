@@ -244,7 +244,7 @@ def goes_on_whatever_a_hook_throws(scratch):
 
 
 def inside(scratch, compiler, source, flags=()):
-    """A program that is built with the source of the shared engine, and with exceptions of C++ if there is a compiler for them."""
+    """A program that is built with the source of the shared engine, and with exceptions of C++ if a compiler has them."""
     if compiler != "cc" or not shutil.which("c++"):
         return built(scratch, compiler, C_FLAGS, C_SOURCES / source, flags)
     tests = compiled(scratch, "cc", C_FLAGS, C_SOURCES / source, [*flags, "-DWITH_CPP"])
@@ -257,7 +257,7 @@ def wakes_each_call_that_rests(scratch):
 
 
 def gives_back_what_a_hook_leaves(scratch):
-    """Hooks that end their thread, jump, throw or fork, in each call that calls one; aborts on the way out and drains, which call none."""
+    """Hooks that end their thread, jump, throw or fork, in each call that calls one; calls that call none."""
     return all_held(run([inside(scratch, "cc", "shared_leaves.c")]))
 
 
@@ -281,7 +281,8 @@ def fuzzed(scratch, source, seconds, flags=(), beside=()):
         (corpus / f"seed{seed}").write_bytes(random.Random(seed).randbytes(2048))
     words = [f"-max_total_time={seconds}", "-max_len=4096", "-len_control=0", "-seed=1", "-print_final_stats=1"]
     reported = run([program, *words, corpus], also_errors=True, cwd=scratch)
-    count = next(line.split()[-1] for line in reported.splitlines() if line.startswith("stat::number_of_executed_units"))
+    executed = "stat::number_of_executed_units"
+    count = next(line.split()[-1] for line in reported.splitlines() if line.startswith(executed))
     return f"{compiler}: {count} inputs in {seconds} s, {len(list(corpus.iterdir()))} kept"
 
 

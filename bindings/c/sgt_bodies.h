@@ -162,7 +162,8 @@ static void break_body_off(void *of)
 static bool is_given(const struct body *it)
 {
     const sgt_ticket *is = &it->transaction->ticket, *was = &it->ticket;
-    return it->transaction->shared == it->shared && is->engine == was->engine && is->part == was->part && is->tid == was->tid;
+    const bool is_same = is->engine == was->engine && is->part == was->part && is->tid == was->tid;
+    return is_same && it->transaction->shared == it->shared;
 }
 
 /*

@@ -239,7 +239,8 @@ uint32_t sgt_shared_transact(sgt_shared *shared, sgt_body body, void *context, c
     static const sgt_transact_options plain = SGT_TRANSACT_OPTIONS;
     if (!options) options = &plain;
     if (!body || !outcome || outcome->size < sizeof *outcome || options->size < sizeof *options) return SGT_BAD_CALL;
-    struct transact it = {.shared = shared, .body = body, .context = context, .beside = options->tries, .outcome = outcome};
+    struct transact it = {.shared = shared, .body = body, .context = context, .outcome = outcome};
+    it.beside = options->tries;
     it.until = deadline_in(options->wait_ns);
     it.transaction = (sgt_transaction)SGT_TRANSACTION;
     call_guarded(make_tries, tell, &it);
@@ -256,7 +257,10 @@ uint32_t sgt_shared_cut(sgt_shared *shared, int64_t wait_ns)
     uint32_t late = SGT_TIMED_OUT;
     uint32_t status = enter(shared);
     if (status != SGT_OK) return status;
-    while (late != SGT_MISUSE && (status = cut_turn(shared, &ask, &until)) == SGT_REST) late = sleep_for(shared, &ask, &until);
+    do {
+        status = cut_turn(shared, &ask, &until);
+        if (status == SGT_REST) late = sleep_for(shared, &ask, &until);
+    } while (status == SGT_REST && late != SGT_MISUSE);
     return leave(shared, status == SGT_TIMED_OUT ? late : status);
 }
 

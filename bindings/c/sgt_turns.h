@@ -149,7 +149,9 @@ static void leave_desk(sgt_shared *s, sgt_ask *ask)
     uint32_t wakes = 0;
     sgt_reply reply = {0};
     if (ask->reason == SGT_IS_BUSY) sgt_desk_leave(&s->desk, ask, &wakes);
-    if (ask->reason == SGT_WAITS_TURN) sgt_desk_commit(&s->engine, &s->desk, ask, s->part + 1, ask->turn, 0, &reply, &wakes);
+    if (ask->reason == SGT_WAITS_TURN) {
+        sgt_desk_commit(&s->engine, &s->desk, ask, s->part + 1, ask->turn, 0, &reply, &wakes);
+    }
     if (wakes) wake_all(s);
 }
 

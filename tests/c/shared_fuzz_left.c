@@ -4,8 +4,8 @@
  * have, and nothing of it is left: the lock is free, and only what its caller has begun is live. Each committed call is
  * told once and stored once, in order. A plain engine that is asked the events of the history gives the same replies.
  *
- * It is linked with --wrap=clock_gettime: its clock is far behind that of the system, so that a call that waits is asked
- * at once. One thread makes the calls of several.
+ * It is linked with --wrap=clock_gettime: its clock is far behind that of the system, so that a call that waits is
+ * asked at once. One thread makes the calls of several.
  *
  * Built with -fsanitize=fuzzer it is a target of libFuzzer; with -DDRAWN it draws inputs for DRAWN seconds.
  */
@@ -82,11 +82,12 @@ static uint32_t ask(sgt_engine *plain, const sgt_event *e, sgt_reply *reply)
 static void follow(struct pair *pair, const sgt_engine *shared, uint64_t part)
 {
     uint64_t live = 0;
-    for (; pair->part < part; pair->part++, pair->read = 0) must(sgt_cut(&pair->plain, &live) == SGT_OK, "a cut of a live one");
+    for (; pair->part < part; pair->part++, pair->read = 0) must(sgt_cut(&pair->plain, &live) == SGT_OK, "a cut");
     for (sgt_event event = {0};; pair->read++) {
         sgt_reply wanted = {0}, reply = {0};
         if (sgt_entry(shared, pair->read, &event, &wanted) != SGT_OK) return;
-        must(ask(&pair->plain, &event, &reply) == SGT_OK && memcmp(&wanted, &reply, sizeof reply) == 0, "another reply");
+        must(ask(&pair->plain, &event, &reply) == SGT_OK, "an event of the plain engine");
+        must(memcmp(&wanted, &reply, sizeof reply) == 0, "another reply");
     }
 }
 
@@ -167,7 +168,8 @@ static void access_one(struct pair *pair, sgt_transaction *t)
     if (kind == 0) status = sgt_transaction_read(t, TABLE, number, &value);
     if (kind == 1) status = sgt_transaction_write(t, TABLE, number, 1);
     if (kind == 2) status = sgt_transaction_remove(t, TABLE, number);
-    must(status == SGT_OK || status == SGT_NONE || status == SGT_UNDONE || status == SGT_MISUSE || status == SGT_BAD_CALL, "an access");
+    const bool has_ended = status == SGT_UNDONE || status == SGT_MISUSE || status == SGT_BAD_CALL;
+    must(status == SGT_OK || status == SGT_NONE || has_ended, "an access");
 }
 
 static uint32_t body(void *context, sgt_transaction *t)
@@ -201,7 +203,8 @@ static void runs(struct pair *pair)
     sgt_run_options options = SGT_RUN_OPTIONS;
     sgt_shared_outcome outcome = SGT_SHARED_OUTCOME;
     options.wait_ns = waits(pair), options.tries = byte(pair->input) % 3;
-    const uint32_t status = sgt_shared_run(pair->shared, byte(pair->input) % 2 ? WRITE : READ, 0, 0, &options, &outcome);
+    const uint64_t procedure = byte(pair->input) % 2 ? WRITE : READ;
+    const uint32_t status = sgt_shared_run(pair->shared, procedure, 0, 0, &options, &outcome);
     must(status == SGT_OK || status == SGT_TIMED_OUT || status == SGT_SELF_WAIT, "a run");
 }
 
@@ -224,9 +227,10 @@ static void tries(struct pair *pair)
 
 static void ends_try(struct pair *pair)
 {
-    const bool commits_it = byte(pair->input) % 2;
-    const uint32_t status = commits_it ? sgt_transaction_commit(&pair->own, waits(pair)) : sgt_transaction_quit(&pair->own);
-    must(pair->own.tries == 0 ? status == SGT_BAD_CALL : status != SGT_BAD_CALL && status != SGT_CLOSED, "an end of a try");
+    uint32_t status = SGT_OK;
+    if (byte(pair->input) % 2) status = sgt_transaction_commit(&pair->own, waits(pair));
+    else status = sgt_transaction_quit(&pair->own);
+    must(status != SGT_CLOSED && (status == SGT_BAD_CALL) == (pair->own.tries == 0), "an end of a try");
     must(!pair->own.is_live, "a try lives on");
 }
 
@@ -235,7 +239,7 @@ static void drains(struct pair *pair)
     sgt_ended ended[2] = {{0}};
     uint64_t count = 77;
     must(sgt_shared_drain(pair->shared, waits(pair), ended, 2, &count) == SGT_OK && count <= 2, "a drain");
-    for (uint64_t i = 0; i < count; i++) must(ended[i].sequence == pair->stored++, "a call is stored twice, or is lost");
+    for (uint64_t i = 0; i < count; i++) must(ended[i].sequence == pair->stored++, "a call is stored twice, or lost");
 }
 
 static void cuts(struct pair *pair)
@@ -283,10 +287,15 @@ static void make_call(struct pair *pair)
 
 /* What holds after each call */
 
+static bool names_same(const sgt_ticket *one, const sgt_ticket *other)
+{
+    return one->tid == other->tid && one->part == other->part;
+}
+
 static bool is_begun(const struct pair *pair, const sgt_ticket *ticket)
 {
-    bool is = pair->own.is_live && pair->own.ticket.tid == ticket->tid && pair->own.ticket.part == ticket->part;
-    for (uint32_t i = 0; i < pair->count; i++) is |= pair->begun[i].tid == ticket->tid && pair->begun[i].part == ticket->part;
+    bool is = pair->own.is_live && names_same(&pair->own.ticket, ticket);
+    for (uint32_t i = 0; i < pair->count; i++) is |= names_same(&pair->begun[i], ticket);
     return is;
 }
 

@@ -186,7 +186,9 @@ static sgt_shared *opened_there(const sgt_shared *there)
 /* Its transaction has the same number, and is live. */
 static void a_late_call_acts_on_no_other_engine(void)
 {
-    static uint32_t (*const calls[])(struct late *) = {counts_entries, steps, commits_ticket, abandons_ticket, runs_once};
+    static uint32_t (*const calls[])(struct late *) = {
+        counts_entries, steps, commits_ticket, abandons_ticket, runs_once,
+    };
     for (int i = 0; i < 5; i++) {
         struct late it = {.shared = opened(0), .call = calls[i]};
         pthread_t thread;

@@ -33,13 +33,21 @@ struct stage {
     uint32_t status;
 };
 
+static void runs_outer(void *of)
+{
+    sgt_shared_outcome outcome = SGT_SHARED_OUTCOME;
+    CHECK(sgt_shared_run(of, WRITE, 0, 0, 0, &outcome) == SGT_OK && outcome.reply.kind == SGT_COMMITTED);
+}
+
 static void acts(struct stage *it)
 {
     it->reports++;
+    CHECK(!is_child); /* which is in a hook already, and calls no other */
     if (!it->is_armed) return;
     it->is_armed = false;
     if (it->forks) forks_once();
     else leave_by(it->way);
+    if (is_child) runs_outer(opens(0)); /* the child may use an engine of its own, in the hook too */
 }
 
 static void ended(void *context, const sgt_ended *call)
@@ -47,6 +55,7 @@ static void ended(void *context, const sgt_ended *call)
     struct stage *it = context;
     CHECK(call->call.kind == SGT_COMMITTED);
     if (!it->scene->is_cut) acts(it);
+    else CHECK(!is_child);
 }
 
 static void cutting(void *context, sgt_engine *engine, uint64_t part)
@@ -54,6 +63,7 @@ static void cutting(void *context, sgt_engine *engine, uint64_t part)
     struct stage *it = context;
     CHECK(engine == &it->shared->engine && part == it->shared->part);
     if (it->scene->is_cut) acts(it);
+    else CHECK(!is_child);
 }
 
 /* With a cut that is due at once. */
@@ -97,7 +107,8 @@ static void behind_a_writer(struct stage *it)
 static void has_begun_a_try(struct stage *it)
 {
     int64_t value = 0;
-    CHECK(sgt_shared_try(it->shared, &it->own, 0) == SGT_OK && sgt_transaction_read(&it->own, TABLE, FIRST, &value) == SGT_OK);
+    CHECK(sgt_shared_try(it->shared, &it->own, 0) == SGT_OK);
+    CHECK(sgt_transaction_read(&it->own, TABLE, FIRST, &value) == SGT_OK);
 }
 
 /* The calls */
@@ -131,9 +142,15 @@ static uint32_t quits_body(void *context, sgt_transaction *t)
     return SGT_BODY_QUIT;
 }
 
-static uint32_t transacts(struct stage *it) { return sgt_shared_transact(it->shared, writes_first, 0, 0, &it->outcome); }
+static uint32_t transacts(struct stage *it)
+{
+    return sgt_shared_transact(it->shared, writes_first, 0, 0, &it->outcome);
+}
 
-static uint32_t transacts_quit(struct stage *it) { return sgt_shared_transact(it->shared, quits_body, 0, 0, &it->outcome); }
+static uint32_t transacts_quit(struct stage *it)
+{
+    return sgt_shared_transact(it->shared, quits_body, 0, 0, &it->outcome);
+}
 
 static uint32_t transacts_alone(struct stage *it)
 {
@@ -206,7 +223,7 @@ static const struct scene scenes[] = {
     {"`cutting` before a run", true, true, behind_a_writer, runs, nothing_is_started},
     {"`cutting` before a try", true, true, behind_a_writer, tries, nothing_is_started},
     {"`cutting` before a function", true, true, behind_a_writer, transacts, nothing_is_started},
-    {"`cutting` before a function that is to be alone", true, true, behind_a_writer, transacts_alone, nothing_is_started},
+    {"`cutting` before one that is to be alone", true, true, behind_a_writer, transacts_alone, nothing_is_started},
 };
 
 enum { SCENES = sizeof scenes / sizeof *scenes };
@@ -259,12 +276,6 @@ static void calls_inner(void *context, const sgt_ended *call)
     struct nested *it = context;
     (void)call;
     if (it->reports++ == 0) it->inner->scene->call(it->inner);
-}
-
-static void runs_outer(void *of)
-{
-    sgt_shared_outcome outcome = SGT_SHARED_OUTCOME;
-    sgt_shared_run(of, WRITE, 0, 0, 0, &outcome);
 }
 
 /* Both are left, and give back what they hold. */
@@ -406,7 +417,8 @@ static void a_start_goes_on_when_the_cut_is_left(void)
     }
     CHECK(sgt_shared_begin(it.shared, 0, &more, &reply) == SGT_TIMED_OUT);
     CHECK(sgt_shared_abandon(it.shared, &it.other) == SGT_OK);
-    CHECK(sgt_shared_begin(it.shared, SGT_FOREVER, &more, &reply) == SGT_OK && it.reports == 1 && part_of(it.shared) == 0);
+    CHECK(sgt_shared_begin(it.shared, SGT_FOREVER, &more, &reply) == SGT_OK);
+    CHECK(it.reports == 1 && part_of(it.shared) == 0);
     pthread_join(cutter, 0);
     holds_nothing(it.shared);
     serves_and_closes(it.shared);
@@ -454,7 +466,8 @@ static void a_drain_calls_no_hook(void)
     is_left(makes, &it, EXITS);
     CHECK(it.reports == 1 && part_of(it.shared) == 0);
     it.scene = &quiet, it.is_armed = true, it.reports = 0;
-    CHECK(sgt_shared_drain(it.shared, 0, &stored, 1, &count) == SGT_OK && count == 1 && stored.call.kind == SGT_COMMITTED);
+    CHECK(sgt_shared_drain(it.shared, 0, &stored, 1, &count) == SGT_OK && count == 1);
+    CHECK(stored.call.kind == SGT_COMMITTED);
     the_cut_comes_later(&it);
 }
 
@@ -493,7 +506,8 @@ static uint32_t swallows(void *context, sgt_transaction *t)
     if (it->tries++ > 0) return SGT_BODY_COMMIT;
     CHECK(sgt_transaction_write(t, TABLE, FIRST, 8) == SGT_OK);
     const sgt_ticket reader = begins(it->stage->shared);
-    CHECK(reads(it->stage->shared, &reader, FIRST) == SGT_LOOKED && writes(it->stage->shared, &reader, SECOND_RECORD) == SGT_WROTE);
+    CHECK(reads(it->stage->shared, &reader, FIRST) == SGT_LOOKED);
+    CHECK(writes(it->stage->shared, &reader, SECOND_RECORD) == SGT_WROTE);
     catches(closes_cycle, it, it->stage->way);
     CHECK(it->stage->reports == 1 && !t->is_live && t->status == SGT_UNDONE);
     if (it->looks) CHECK(sgt_transaction_read(t, TABLE, FIRST, &value) == SGT_UNDONE);
@@ -523,6 +537,7 @@ static void a_body_that_goes_on_is_run_again(void)
 struct asked_in_hook {
     sgt_shared *full, *third;
     sgt_ticket live[2];
+    enum way way;
     int asked;
 };
 
@@ -532,6 +547,7 @@ static uint32_t calls_third(void *context)
     uint64_t count = 0;
     if (it->asked++ > 0) return 0;
     CHECK(sgt_shared_entries(it->third, &count, 0) == SGT_MISUSE);
+    if (can_leave(it->way)) leave_by(it->way);
     return 1;
 }
 
@@ -558,21 +574,27 @@ static void *begins_two(void *of)
 
 /*
  * The engine of the hook waits for one call at a time, as that is what other threads look at before they wait for it.
+ * The watch returns, or leaves both calls.
  */
 static void a_watch_in_a_hook_makes_no_call(void)
 {
-    sgt_shared_config config = SGT_SHARED_CONFIG;
-    struct asked_in_hook it = {.full = opens(0), .third = opens(0)};
-    pthread_t thread;
-    of_what = "a watch in a hook";
-    config.ended = starts_in_full, config.context = &it;
-    sgt_shared *outer = opens(&config);
-    CHECK(pthread_create(&thread, 0, begins_two, &it) == 0 && pthread_join(thread, 0) == 0);
-    runs_outer(outer);
-    CHECK(it.asked == 1);
-    serves_and_closes(outer);
-    serves_and_closes(it.full);
-    serves_and_closes(it.third);
+    for (enum way way = 0; way <= WAYS; way++) {
+        sgt_shared_config config = SGT_SHARED_CONFIG;
+        struct asked_in_hook it = {.full = opens(0), .third = opens(0), .way = way};
+        pthread_t thread;
+        of_what = "a watch in a hook";
+        config.ended = starts_in_full, config.context = &it;
+        sgt_shared *outer = opens(&config);
+        CHECK(pthread_create(&thread, 0, begins_two, &it) == 0 && pthread_join(thread, 0) == 0);
+        if (can_leave(way)) is_left(runs_outer, outer, way);
+        else runs_outer(outer);
+        CHECK(it.asked == 1);
+        holds_nothing(outer);
+        holds_nothing(it.full);
+        serves_and_closes(outer);
+        serves_and_closes(it.full);
+        serves_and_closes(it.third);
+    }
 }
 
 int main(void)

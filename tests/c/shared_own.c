@@ -751,17 +751,20 @@ static void bodies_may_not_swap(void)
     for (int is_other = 0; is_other < 2; is_other++) {
         struct swap it = {.of = is_other ? other : shared, .other = SGT_TRANSACTION};
         sgt_shared_outcome out = fresh;
-        CHECK(sgt_shared_transact(shared, swaps, &it, 0, &out) == SGT_MISUSE && out.tries == 1 && out.reply.kind == fresh.reply.kind);
+        CHECK(sgt_shared_transact(shared, swaps, &it, 0, &out) == SGT_MISUSE);
+        CHECK(out.tries == 1 && out.reply.kind == fresh.reply.kind);
         CHECK(lives(shared) == 0 && lives(other) == 0 && got(shared, 1) == 10 && got(it.of, 2) == 20);
         it = (struct swap){.of = it.of, .other = SGT_TRANSACTION, .goes_back = true};
-        CHECK(sgt_shared_transact(shared, swaps, &it, 0, &out) == SGT_OK && out.reply.kind == SGT_COMMITTED && got(shared, 1) == 5);
+        CHECK(sgt_shared_transact(shared, swaps, &it, 0, &out) == SGT_OK);
+        CHECK(out.reply.kind == SGT_COMMITTED && got(shared, 1) == 5);
         CHECK(sgt_transaction_quit(&it.other) == SGT_OK && got(it.of, 2) == 20);
         sgt_transaction t = SGT_TRANSACTION;
         CHECK(sgt_shared_try(shared, &t, 0) == SGT_OK && sgt_transaction_write(&t, TABLE, 1, 10) == SGT_OK);
         CHECK(sgt_transaction_commit(&t, 0) == SGT_OK);
     }
     sgt_shared_outcome out = fresh;
-    CHECK(sgt_shared_transact(shared, begins_anew, shared, 0, &out) == SGT_MISUSE && lives(shared) == 0 && got(shared, 1) == 10);
+    CHECK(sgt_shared_transact(shared, begins_anew, shared, 0, &out) == SGT_MISUSE);
+    CHECK(lives(shared) == 0 && got(shared, 1) == 10);
     closes(shared);
     closes(other);
 }

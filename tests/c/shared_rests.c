@@ -70,7 +70,7 @@ static void an_announcement_wakes_nobody_later(void)
     announce(&s->lock, &s->changed);
     announce(&s->lock, &s->changed);
     const uint64_t count = s->changed.count;
-    while (rest(s, &s->changed, &until)) CHECK(s->changed.count == count); /* a wake of nothing, which a system may give */
+    while (rest(s, &s->changed, &until)) CHECK(s->changed.count == count); /* a system may wake for nothing */
     unlock(s);
     serves_and_closes(s);
 }
@@ -172,7 +172,10 @@ static void the_other_quits(struct stage *it) { quits(it->shared, &it->others[0]
 static void the_other_commits(struct stage *it) { commits(it->shared, &it->others[0]); }
 
 /* It ends the transaction, and leaves the cut that is due to another call. */
-static void the_other_is_abandoned(struct stage *it) { CHECK(sgt_shared_abandon(it->shared, &it->others[0]) == SGT_OK); }
+static void the_other_is_abandoned(struct stage *it)
+{
+    CHECK(sgt_shared_abandon(it->shared, &it->others[0]) == SGT_OK);
+}
 
 static void a_run_ends(struct stage *it)
 {
@@ -245,7 +248,8 @@ static uint32_t reads_first(void *context, sgt_transaction *t)
 static void *other_writes_both(void *of)
 {
     struct stage *it = of;
-    CHECK(writes(it->shared, &it->others[0], FIRST) == SGT_WROTE && writes(it->shared, &it->others[0], SECOND_RECORD) == SGT_WROTE);
+    CHECK(writes(it->shared, &it->others[0], FIRST) == SGT_WROTE);
+    CHECK(writes(it->shared, &it->others[0], SECOND_RECORD) == SGT_WROTE);
     return 0;
 }
 
@@ -387,8 +391,8 @@ static const struct scene pauses[] = {
     {"a start that makes the cut", beside_a_writer, starts, the_other_is_abandoned, SGT_TIMED_OUT},
     {"a run before a cut", beside_a_writer, runs, the_other_quits, SGT_TIMED_OUT},
     {"a run that makes the cut", beside_a_writer, runs, the_other_is_abandoned, SGT_TIMED_OUT},
-    {"a function that is to be alone, before a cut", beside_a_writer, transacts_alone, the_other_quits, SGT_TIMED_OUT},
-    {"a function that is to be alone, and makes the cut", beside_a_writer, transacts_alone, the_other_is_abandoned, SGT_TIMED_OUT},
+    {"one that is to be alone, before a cut", beside_a_writer, transacts_alone, the_other_quits, SGT_TIMED_OUT},
+    {"one that is to be alone, and cuts", beside_a_writer, transacts_alone, the_other_is_abandoned, SGT_TIMED_OUT},
     {"a try before a cut", beside_a_writer, tries, the_other_quits, SGT_TIMED_OUT},
 };
 
@@ -461,7 +465,8 @@ static void begin_stage(struct stage *it, const struct scene *scene, bool pauses
     config.keeps_ended = 1;
     config.cut_after = pauses_first ? 1 : SGT_NEVER;
     config.cut_wait_ns = pauses_first ? SGT_FOREVER - 1 : 0;
-    *it = (struct stage){.scene = scene, .shared = opens(&config), .own = SGT_TRANSACTION, .acts = acts, .wait_ns = SGT_FOREVER};
+    *it = (struct stage){.scene = scene, .shared = opens(&config), .own = SGT_TRANSACTION, .acts = acts};
+    it->wait_ns = SGT_FOREVER;
     of_what = scene->name;
     if (scene->begins) scene->begins(it);
 }
@@ -540,7 +545,7 @@ static void is_forked_by_its_watch(const struct scene *scene, bool pauses_first)
 
 /* All of this for each call. Much of it is sleep, so it is done side by side, but for forks. */
 
-enum { SCENES = sizeof scenes / sizeof *scenes, PAUSES = sizeof pauses / sizeof *pauses, ALL = SCENES + PAUSES, WORKERS = 6 };
+enum { SCENES = sizeof scenes / sizeof *scenes, ALL = SCENES + sizeof pauses / sizeof *pauses, WORKERS = 6 };
 
 static const struct scene *scene_at(int i) { return i < SCENES ? &scenes[i] : &pauses[i - SCENES]; }
 
@@ -598,12 +603,45 @@ static void a_watch_is_asked_however_often_all_are_woken(void)
     end_stage(&it);
 }
 
+/* A thread that is cancelled while it is asked */
+
+static void is_cancelled_meanwhile(struct stage *it)
+{
+    it->is_ready = true;
+    while (!it->may_go_on) sched_yield();
+    pthread_testcancel();
+    ends_it(it);
+}
+
+static void *makes_and_ends(void *of)
+{
+    makes(of);
+    pthread_testcancel();
+    return 0;
+}
+
+/* It goes on until its call has returned. */
+static void a_thread_that_is_cancelled_in_its_watch_goes_on(void)
+{
+    struct stage it;
+    void *ended = 0;
+    begin_stage(&it, &scenes[0], false, is_cancelled_meanwhile);
+    it.status = UINT32_MAX;
+    CHECK(pthread_create(&it.helper, 0, makes_and_ends, &it) == 0);
+    while (!it.is_ready) sched_yield();
+    CHECK(pthread_cancel(it.helper) == 0);
+    it.may_go_on = true;
+    CHECK(pthread_join(it.helper, &ended) == 0 && ended == PTHREAD_CANCELED && it.status == SGT_OK && it.asked > 0);
+    end_stage(&it);
+}
+
 int main(void)
 {
     an_announcement_is_never_lost();
     an_announcement_wakes_nobody_later();
     all_that_rest_are_counted_out();
     a_watch_is_asked_however_often_all_are_woken();
+    a_thread_that_is_cancelled_in_its_watch_goes_on();
     each_call_that_rests();
     each_call_that_rests_is_forked();
     printf("%d checks, %d failed\n", checks, failed);
