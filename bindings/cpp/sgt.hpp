@@ -454,8 +454,8 @@ private:
 using Wait = std::optional<std::chrono::nanoseconds>;
 
 // The configuration of a shared engine: see sgt_shared_config. What a hook throws is thrown by the call in which it was
-// called. That call has been carried out, with one exception: if `cutting` throws there is no cut, and a call that had
-// to wait for this cut before its start has started nothing. A destructor, OwnTransaction::quit and a drain call no
+// called. That call has been carried out, with one exception: if `cutting` throws there is no cut, and a call that was
+// to cut before it starts a transaction has started nothing. A destructor, OwnTransaction::quit and a drain call no
 // hook: a cut that is due is left to a later call.
 struct Configuration {
     std::function<void(const sgt_ended &)> ended;

@@ -48,9 +48,9 @@ pub struct Configuration {
     pub ended: Option<EndedHook>,
     /// Called before each cut with the engine, whose history and database it may read, and with the number of the part
     /// that is cut off. The engine's lock is held, so it may not call the shared engine. If it panics, there is no cut.
-    /// The call that was to cut has been carried out, unless it is [`SharedEngine::cut`], or had to wait for this cut
-    /// before its start: then nothing was started. If memory is short the cut fails, and the hook is called again for
-    /// the same part later.
+    /// The call that was to cut has been carried out, unless it is [`SharedEngine::cut`], or was to cut before it
+    /// starts a transaction: then nothing was started. If memory is short the cut fails, and the hook is called again
+    /// for the same part later.
     pub cutting: Option<CuttingHook>,
     /// Whether these calls are stored until [`SharedEngine::drain`] takes them.
     pub keeps_ended: bool,
