@@ -118,7 +118,10 @@ static void errors_say_why()
     writer.write(TABLE, 101, 11);
     sgt::TransactLimits limits;
     limits.wait = milliseconds(5);
-    CHECK(throws<sgt::TimedOut>([&] { bank.transact([](sgt::OwnTransaction &t) { return t.read(TABLE, 101); }, limits); }));
+    const auto reads = [](sgt::OwnTransaction &t) { return t.read(TABLE, 101); };
+    CHECK(throws<sgt::TimedOut>([&] { bank.transact(reads, limits); }));
+    limits.wait = std::chrono::nanoseconds::max(); // for ever
+    CHECK(throws<sgt::SelfWait>([&] { bank.transact(reads, limits); }));
     bank.quit(writer.ticket());
     try {
         writer.commit();

@@ -104,6 +104,8 @@ fn says_why() -> Result<(), Error> {
         t.read(TABLE, 101)
     });
     assert_eq!(reported, Err(Error::TimedOut));
+    let for_ever = TransactLimits { wait: Some(Duration::MAX), ..TransactLimits::default() };
+    assert_eq!(bank.transact_within(for_ever, |t| t.read(TABLE, 101)), Err(Error::SelfWait));
     assert_eq!(bank.live()?.len(), 1);
     bank.quit(writer.ticket())?;
     let quit = Error::Aborted { reply: Reply::Over(Fate::Aborted(Cause::Quit)), is_conflict: false };
