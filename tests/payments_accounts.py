@@ -192,6 +192,10 @@ def strange_calls():
                     same(f"the rows after {name} with {strange} as {key}", rows, bank.rows())
                 judge(bank.rows(), money_of(bank, rows))
                 bank, _ = made_bank() if bank.rows() != rows else (bank, None)
+    for name in ("pay", "hold", "credit", "decline"):  # account 0 has the ids below a million
+        for strange in (0, -1, -999_999, -own(1, 1), own(1, 0)):
+            same(f"{name} of {strange} from account 0", (False, 11), call(bank, name, strange, 0, 2, 7)[:2])
+            same(f"the rows after {name} of {strange}", rows, bank.rows())
     for name in ("day", "set_day"):
         for strange in (-1, 100_000, MOST, LEAST, -(10**10)):
             same(f"{name} with {strange}", (False, True), (lambda it: (it[0], it[1] > 0))(call(bank, name, strange)))
