@@ -1278,6 +1278,8 @@ def bad_procedures():
         ({"request": ["gift"], "procedure": [1, [["look", 99, 1, ["arg", 0], 1]]]}, "at 1 0 1: register 99 is over 15"),
         ({"request": ["gift", "amount"], "procedure": [1, [look]]}, "the request has 2 keys, and the procedure takes 1 arguments"),
         ({"request": ["gift"], "refused": {"one": "x"}, "procedure": [1, [look]]}, "ValueError"),
+        ({"request": ["gift"], "accounts": ["gifts"], "procedure": [1, [look]]}, "ValueError: the request has no key gifts"),
+        ({"request": ["gift"], "rights": {"to": "pay"}, "procedure": [1, [look]]}, "ValueError: the request has no key to"),
         ({"request": ["balance"], "procedure": [1, [look]]}, "balance.json has the same keys in its request"),
     ]
     with scratch() as folder:

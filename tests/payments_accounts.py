@@ -22,6 +22,7 @@ sys.dont_write_bytecode = True
 # The test program beside this one: it comes first, as the folder of the example has a program of that name, too.
 from payments import PAYMENTS, PROCEDURES, Partitions, Server, ask, asked, gift_of_page, pay, run, scratch  # noqa: E402
 from helpers.bank_model import Model  # noqa: E402
+from helpers import bank_rows  # noqa: E402
 from helpers.bank_rows import BALANCES, SPENT, judge, own, tables  # noqa: E402
 from helpers.cases import TESTS, Differs, same, run_cases  # noqa: E402
 from bank import OUTCOME, ROW, Bank, load_procedures  # noqa: E402
@@ -191,6 +192,10 @@ def strange_calls():
                     same(f"the rows after {name} with {strange} as {key}", rows, bank.rows())
                 judge(bank.rows(), money_of(bank, rows))
                 bank, _ = made_bank() if bank.rows() != rows else (bank, None)
+    for name in ("pay", "hold", "credit", "decline"):  # account 0 has the ids below a million
+        for strange in (0, -1, -999_999, -own(1, 1), own(1, 0)):
+            same(f"{name} of {strange} from account 0", (False, 11), call(bank, name, strange, 0, 2, 7)[:2])
+            same(f"the rows after {name} of {strange}", rows, bank.rows())
     for name in ("day", "set_day"):
         for strange in (-1, 100_000, MOST, LEAST, -(10**10)):
             same(f"{name} with {strange}", (False, True), (lambda it: (it[0], it[1] > 0))(call(bank, name, strange)))
@@ -325,6 +330,29 @@ def credited_ids():
             [call(bank, name, number, *it)[1] for it in others],
         )
     judge(bank.rows(), 4 * CENTS)
+
+
+def held_for_long():
+    """One that is held comes again every 90 days, takes no more records by that, and goes once it is captured."""
+    bank, counts = bank_of(range(3)), []
+    call(bank, "hold", own(1, 1), 1, 2, 100)
+    call(bank, "pay", own(1, 2), 1, 2, 100)
+    for after in range(1, 6):
+        for day in (91 * after - 90, 91 * after):
+            call(bank, "set_day", DAY + day)
+            for _ in range(4):
+                call(bank, "forget")
+            judge(bank.rows(), 3 * CENTS)
+        counts.append(len(tables(bank.rows())[bank_rows.PAYMENTS]))
+        same("the hold", 1, call(bank, "payment", own(1, 1), 1)[2][3])
+    same("the records of payments", [10] * 5, counts)
+    same("the hold", True, call(bank, "capture", own(1, 1), 2)[0])
+    for day in (500, 590):
+        call(bank, "set_day", DAY + day)
+        for _ in range(4):
+            call(bank, "forget")
+    judge(bank.rows(), 3 * CENTS)
+    same("ids and payments at the end", [{}, {}], tables(bank.rows())[bank_rows.IDS : bank_rows.PAYMENTS + 1])
 
 
 def days_of_limits():
@@ -684,7 +712,16 @@ def main():
         ids_of_others,
         credited_ids,
     ]
-    cases += [days_of_limits, limits_of_days, edges, held_between_partitions, cookbook, hostile_calls, hostile_lines]
+    cases += [
+        held_for_long,
+        days_of_limits,
+        limits_of_days,
+        edges,
+        held_between_partitions,
+        cookbook,
+        hostile_calls,
+        hostile_lines,
+    ]
     return run_cases([case for case in cases if not names or case.__name__ in names], of="payments accounts")
 
 

@@ -52,6 +52,8 @@ class Procedure:
         Engine.bare(1, 1).procedure(self.text)  # says what is wrong with it
         if self.request and len(self.request) != self.text[0]:
             raise ValueError(f"the request has {len(self.request)} keys, and the procedure takes {self.text[0]} arguments")
+        if unknown := sorted({*self.bounds, *self.rights} - {*self.request}):
+            raise ValueError(f"the request has no key {', '.join(unknown)}")
 
     def reply(self, outcome: Sequence[int], first: int, age: str) -> str:
         """What a client gets: its first argument, and the answers, or why it was refused; and how old that is, if a follower says it."""
