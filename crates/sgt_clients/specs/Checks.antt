@@ -1,5 +1,5 @@
 -- What a check on what clients saw writes for each output, and how it ends.
-use Rattle.std.specs.Prelude.{◌≡◌, ◌≢◌, ◌<◌, ℕ, Bool, true, if◌then◌else◌, List, [], length, IfSome, ⊤}
+use Rattle.std.specs.Prelude.{◌≡◌, ◌≢◌, ◌<◌, ℕ, Bool, true, false, if◌then◌else◌, List, [], length, IfSome, ⊤}
 use Rattle.sgt_check.specs.declared.fault.CheckFault.TheVariants as check_fault
 use Rattle.sgt_edn.specs.Scans.{is_edn, json_of_edn}
 use Rattle.sgt_clients.specs.declared.clients.Clients.{Clients}
