@@ -1,9 +1,10 @@
 /*
  * sgt_shared: one engine for many threads.
  *
- * Any thread may make any call at any time. Each call holds one lock, and releases it while it waits. Who waits for what, who is woken,
- * what is tried again and when alone, what a ticket names, when the history is cut, and which calls are handed on is proved, as the calls of
- * sgt.h are. The lock, sleeping, hooks, forks, and what the header says of threads are C, and tested: docs/PROOFS.md lists both, under
+ * Any thread may make any call at any time. Each call holds one lock, and releases it while it waits. Each turn of a call, from one wait to
+ * the next, is proved, as the calls of sgt.h are: why it waits, and that it is late only if it would have to; who is woken; what is tried
+ * again and when alone; that a run ends once whatever it waits for has ended; what a ticket names; when the history is cut; which calls are
+ * handed on. The lock, sleeping, hooks, forks, and what the header says of threads are C, and tested: docs/PROOFS.md lists both, under
  * sgt_desk and Only tested.
  *
  *     sgt_shared *bank;
@@ -233,6 +234,11 @@ uint32_t sgt_shared_close(sgt_shared **shared);
  * The reply is the last one: SGT_COMMITTED, SGT_REFUSED, SGT_ABORTED with SGT_BY_CODE, or that to a start that is refused for good
  * (SGT_NO_PROCEDURE, SGT_BAD_ARGS, SGT_SPENT). If the tries are used up, it is the SGT_ABORTED or SGT_OVER of the last one; if another
  * thread aborted it, SGT_OVER with SGT_BY_QUIT.
+ *
+ * A run ends once whatever it waits for has ended. If no other transaction is live, no cut is awaited, the deadline has not come and memory
+ * suffices, its next turn is its last: it is committed or refused, raises a code, or its start is refused for good. One turn more may be
+ * needed if its transaction was aborted while it waited. A run aborts its own transaction only if the deadline has come and it would have to
+ * wait, or memory is short. These sentences are proved of its turns; when its thread makes the next one is up to the system.
  *
  * SGT_TIMED_OUT if the deadline comes: nothing of it is left live. If a deadline other than 0 comes before its turn, nothing is started.
  * SGT_NO_MEMORY, SGT_SELF_WAIT: nothing is left live either. SGT_BAD_CALL if there are over 4 arguments, if the procedure is over 65535,
