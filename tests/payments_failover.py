@@ -409,7 +409,7 @@ def without_mark():
 
 
 def lost_after_snapshot():
-    """What a snapshot has was safe: a journal that ends before it is refused, also without a mark, and is left alone."""
+    """What a snapshot has was safe: a journal that ends before it is refused, also without a mark, and left alone."""
     with scratch() as folder:
         calls, data = acknowledged(folder / "j", 4)
         begins, journal = lines_of(data), folder / "j"

@@ -31,12 +31,12 @@ class FileJournal:
         if self._newest.is_symlink() and not self._newest.exists():
             raise Unusable(f"{self.folder / os.readlink(self._newest)}: this file is gone, and with it what was acknowledged in it")
         if not self.paths():
-            self._begin(self._known() + 1)
+            self._open(self._known() + 1)
         path = self.paths()[-1]
         lines, tail = whole_lines(path, self._known())
         self.report = self._reported_of(int(path.stem) + len(lines) - 1, tail)
         self._mark, self._synced = os.open(self.folder / "safe", os.O_RDWR | os.O_CREAT, 0o600), 0.0
-        self._open(path).truncate(path.stat().st_size - len(tail))
+        self._open(int(path.stem)).truncate(path.stat().st_size - len(tail))
         return True
 
     def _known(self) -> int:
@@ -85,17 +85,14 @@ class FileJournal:
         """Goes on in a new file, and deletes the files of which no batch is needed. Threads do that, as a large one takes a quarter of a second."""
         if not self._file or number < int(self.paths()[-1].stem):
             return
-        self._begin(after)
+        self._open(after)
         for path in [path for path, later in zip(self.paths(), self.paths()[1:]) if int(later.stem) <= number + 1 and not self.keep]:
             threading.Thread(target=path.unlink).start()
 
-    def _begin(self, number: int) -> None:
-        (path := self.folder / f"{number:015}.batches").touch(0o600)
-        self._open(path)
-
-    def _open(self, path: pathlib.Path) -> BinaryIO:
-        """Makes the file's name safe, and then the link to it. A start compares them: of a file that is gone nothing else would tell."""
-        self._file = open(path, "ab")
+    def _open(self, number: int) -> BinaryIO:
+        """Makes the name of the file that begins with a batch safe, and then the link to it, which a start compares."""
+        path = self.folder / f"{number:015}.batches"
+        self._file = open(path, "ab", opener=lambda name, flags: os.open(name, flags, 0o600))
         sync_names(self.folder)
         (new := self._newest.with_suffix(".new")).unlink(missing_ok=True)  # left by a server that was killed here
         new.symlink_to(path.name)
