@@ -42,6 +42,7 @@ static void runs_outer(void *of)
 static void acts(struct stage *it)
 {
     it->reports++;
+    CHECK(!is_child); /* which is in a hook already, and calls no other */
     if (!it->is_armed) return;
     it->is_armed = false;
     if (it->forks) forks_once();
@@ -54,6 +55,7 @@ static void ended(void *context, const sgt_ended *call)
     struct stage *it = context;
     CHECK(call->call.kind == SGT_COMMITTED);
     if (!it->scene->is_cut) acts(it);
+    else CHECK(!is_child);
 }
 
 static void cutting(void *context, sgt_engine *engine, uint64_t part)
@@ -61,6 +63,7 @@ static void cutting(void *context, sgt_engine *engine, uint64_t part)
     struct stage *it = context;
     CHECK(engine == &it->shared->engine && part == it->shared->part);
     if (it->scene->is_cut) acts(it);
+    else CHECK(!is_child);
 }
 
 /* With a cut that is due at once. */

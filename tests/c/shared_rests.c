@@ -603,12 +603,45 @@ static void a_watch_is_asked_however_often_all_are_woken(void)
     end_stage(&it);
 }
 
+/* A thread that is cancelled while it is asked */
+
+static void is_cancelled_meanwhile(struct stage *it)
+{
+    it->is_ready = true;
+    while (!it->may_go_on) sched_yield();
+    pthread_testcancel();
+    ends_it(it);
+}
+
+static void *makes_and_ends(void *of)
+{
+    makes(of);
+    pthread_testcancel();
+    return 0;
+}
+
+/* It goes on until its call has returned. */
+static void a_thread_that_is_cancelled_in_its_watch_goes_on(void)
+{
+    struct stage it;
+    void *ended = 0;
+    begin_stage(&it, &scenes[0], false, is_cancelled_meanwhile);
+    it.status = UINT32_MAX;
+    CHECK(pthread_create(&it.helper, 0, makes_and_ends, &it) == 0);
+    while (!it.is_ready) sched_yield();
+    CHECK(pthread_cancel(it.helper) == 0);
+    it.may_go_on = true;
+    CHECK(pthread_join(it.helper, &ended) == 0 && ended == PTHREAD_CANCELED && it.status == SGT_OK && it.asked > 0);
+    end_stage(&it);
+}
+
 int main(void)
 {
     an_announcement_is_never_lost();
     an_announcement_wakes_nobody_later();
     all_that_rest_are_counted_out();
     a_watch_is_asked_however_often_all_are_woken();
+    a_thread_that_is_cancelled_in_its_watch_goes_on();
     each_call_that_rests();
     each_call_that_rests_is_forked();
     printf("%d checks, %d failed\n", checks, failed);
