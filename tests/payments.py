@@ -2300,7 +2300,7 @@ def redis_replicas():
 
 
 def sizes():
-    """What one copies stays small: at most 1,100 lines of code, without blank lines, comments and docstrings, in files of at most 200 lines."""
+    """What one copies stays small: at most 1,150 lines of code, without blank lines, comments and docstrings, in files of at most 200 lines."""
     total = 0
     for path in PAYMENTS.glob("*.py"):
         text = path.read_text()
@@ -2312,7 +2312,7 @@ def sizes():
         if len(lines) > 200:
             raise Differs(f"{path.name} has {len(lines)} lines")
         total += len(code)
-    if total > 1_100:
+    if total > 1_150:
         raise Differs(f"there are {total} lines of code")
     return f"{total} lines of code"
 
