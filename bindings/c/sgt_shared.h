@@ -42,8 +42,8 @@
  * from a thread whose cancellation is asynchronous, or from a signal handler.
  *
  * FUNCTIONS THAT DO NOT RETURN. A hook, a watch or a body may throw an exception, if its language has them, or end its
- * thread. With glibc it may leave by longjmp, too; with another C library it must not. The lock is then released, and
- * nothing that the call holds is left.
+ * thread. With glibc it may leave by longjmp, too; with another C library a hook or a watch must not. The lock is then
+ * released, and nothing that the call holds is left.
  *
  * FORKS. Each call of a child is SGT_MISUSE on an engine that was opened before the fork. A child that a hook or a
  * watch forks returns from that into a call: it ends at once, with SGT_MISUSE, and does nothing more.
@@ -99,9 +99,9 @@ typedef struct sgt_live {
 /*
  * The configuration of a shared engine. Begin with SGT_SHARED_CONFIG, which asks for nothing, and set the fields that you need.
  *
- * The hooks are called under the lock, so nothing else happens meanwhile. A call from a hook to the same engine is SGT_MISUSE, but for
- * sgt_shared_abandon, sgt_shared_accesses and sgt_shared_allow_cut. A hook may call another engine. If hooks of that one call back, so that each waits for the
- * other, one of the calls is SGT_MISUSE.
+ * The hooks are called under the lock, so nothing else happens meanwhile. A call from a hook to the same engine is
+ * SGT_MISUSE, but for sgt_shared_abandon, sgt_shared_accesses and sgt_shared_allow_cut. A hook may call another engine.
+ * If hooks of that one call back, so that each waits for the other, one of the calls is SGT_MISUSE.
  *
  * What a hook throws reaches whoever made the call. The call has been carried out then, and has written what it writes:
  * but if `cutting` throws, there is no cut, and the next one is put off. One case is different: a call that starts a
