@@ -146,7 +146,7 @@ def call(bank, name, *args):
     """Runs a call. The kind of its reply, its code, and its answers; and the code of a refusal that is remembered."""
     (outcome,) = OUTCOME.iter_unpack(bank.run(pack_calls([(bank.numbers[name], *args)]), [name])[0])
     kind, code, count = outcome[:3]
-    return kind == Kind.COMMITTED, code, list(outcome[3 : 3 + count])
+    return (True, 0, list(outcome[3 : 3 + count])) if kind == Kind.COMMITTED else (False, code, [])
 
 
 def made_bank():
@@ -337,6 +337,7 @@ def held_for_long():
     bank, counts = bank_of(range(3)), []
     call(bank, "hold", own(1, 1), 1, 2, 100)
     call(bank, "pay", own(1, 2), 1, 2, 100)
+    call(bank, "hold", own(1, 3), 1, 2, 100)
     for after in range(1, 6):
         for day in (91 * after - 90, 91 * after):
             call(bank, "set_day", DAY + day)
@@ -345,8 +346,8 @@ def held_for_long():
             judge(bank.rows(), 3 * CENTS)
         counts.append(len(tables(bank.rows())[bank_rows.PAYMENTS]))
         same("the hold", 1, call(bank, "payment", own(1, 1), 1)[2][3])
-    same("the records of payments", [10] * 5, counts)
-    same("the hold", True, call(bank, "capture", own(1, 1), 2)[0])
+    same("the records of payments", [20] * 5, counts)
+    same("the holds", [True] * 2, [call(bank, "capture", own(1, number), 2)[0] for number in (1, 3)])
     for day in (500, 590):
         call(bank, "set_day", DAY + day)
         for _ in range(4):
@@ -441,6 +442,7 @@ def edges():
         same(f"a credit to who has {has}", wanted, call(bank, "credit", 1, 0, 1, 5)[2])
     same("the first day of all", True, call(bank, "day", 0)[0])
     same("the first and the last day", [True, True], [call(bank, "set_day", day)[0] for day in (0, 99_999)])
+    same("the day after the last one", 2, call(bank, "day", 100_000)[1])
 
 
 def ends(folder, here, there, *request):
