@@ -162,9 +162,9 @@ def runs_the_commands_of_its_page(scratch):
     """The commands of the page, but for the folders in which they put something."""
     block = (TOP / "docs" / "LIBRARY.md").read_text().split("```sh\n")[1].split("```")[0]
     commands = [line.partition("#")[0].split() for line in block.splitlines()]
-    same("the first command, which makes the library", ["bindings/build"], commands[0])
+    same("the commands that make the library", [["bindings/build", "unproved"], ["bindings/build"]], commands[:2])
     places = {"/usr/local": scratch / "page", "dist": scratch / "dist"}
-    for words in commands[1:]:
+    for words in commands[2:]:
         run([places.get(word, word) for word in words], cwd=TOP)
     same("what an install made", True, (scratch / "page" / "lib" / "libsgt.so").exists())
     same("what else was made", 1, len(list((scratch / "dist").glob("*.whl"))))
